@@ -1,0 +1,9 @@
+pub mod Verdicts
+pub mod Sounds
+pub mod Follows
+pub mod Ontos
+pub mod Rows
+pub mod Backs
+pub mod Accepted
+pub mod Saves
+pub mod Wells

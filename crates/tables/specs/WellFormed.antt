@@ -1,0 +1,68 @@
+-- What the program of every accepted file keeps.
+use mathlib.Core.Path.{_≡_}
+use mathlib.Core.Bool.{true}
+use mathlib.Core.List.{List, [], _∷_}
+use Prim.Native.Nat.{ℕ, _+_, _<_, _≤_}
+use lib.ListN.{length, take, drop}
+use Rattle.kinds.specs.Meaning.{Meaning}
+use Rattle.std.specs.shelf.Lists.{All}
+use Rattle.records.specs.declared.statement.Place.{Place}
+use Rattle.records.specs.declared.statement.Place.the-variants.{Shared, Local}
+use Rattle.records.specs.declared.statement.Statement.{Statement}
+use Rattle.records.specs.declared.statement.Statement.the-variants.{Set, Copy, Sum, Difference, Less, Same, Jump, Branch, Assume, Assert, Init, Destroy, Lock, Unlock, Create, Join}
+use Rattle.tables.specs.declared.text.ThreadText.{ThreadText}
+use Rattle.tables.specs.Program.{Program}
+
+-- what a statement's fields are measured by
+pub record Counts : Type 0 where
+  pub cells : ℕ
+  pub mutexes : ℕ
+  pub threads : ℕ
+  pub locals : ℕ
+  pub size : ℕ
+
+abbrev pub There : Counts → Place → Type 0
+There m (Shared n) = n < m .cells
+There m (Local n) = n < m .locals
+
+-- the fields of the statement numbered n
+abbrev pub Fit : Meaning → Counts → ℕ → Statement → Type 0
+Fit k m n (Set p v) = There m p × (k .lawful v ≡ true)
+Fit k m n (Copy p q) = There m p × There m q
+Fit k m n (Sum p q r) = There m p × There m q × There m r
+Fit k m n (Difference p q r) = There m p × There m q × There m r
+Fit k m n (Less p q r) = There m p × There m q × There m r
+Fit k m n (Same p q r) = There m p × There m q × There m r
+Fit k m n (Jump t) = (n < t .0) × (t .0 ≤ m .size)
+Fit k m n (Branch p t) = There m p × (n < t .0) × (t .0 ≤ m .size)
+Fit k m n (Assume p) = There m p
+Fit k m n (Assert p) = There m p
+Fit k m n (Init x) = x .0 < m .mutexes
+Fit k m n (Destroy x) = x .0 < m .mutexes
+Fit k m n (Lock x) = x .0 < m .mutexes
+Fit k m n (Unlock x) = x .0 < m .mutexes
+Fit k m n (Create j) = (1 ≤ j .0) × (j .0 < m .threads)
+Fit k m n (Join j) = j .0 < m .threads
+
+-- the statements of a text, numbered from n on
+abbrev pub Numbered : Meaning → Counts → ℕ → List Statement → Type 0
+Numbered k m n [] = Unit {0}
+Numbered k m n (s ∷ ss) = Fit k m n s × Numbered k m (n + 1) ss
+
+abbrev pub counts : ℕ → ℕ → ℕ → ℕ → ℕ → Counts
+counts cs ms ts l z = record { cells = cs; mutexes = ms; threads = ts; locals = l; size = z }
+
+-- the texts take their statements in turn from the list, which starts at the place `at`, and none is left
+abbrev pub Threads : Meaning → ℕ → ℕ → ℕ → ℕ → List ThreadText → List Statement → Type 0
+Threads k cs ms n at [] ss = ss ≡ []
+Threads k cs ms n at (t ∷ ts) ss =
+    (t .locals ≤ 8) × (1 ≤ t .size) × (t .size ≤ 48) × (t .first ≡ at) × (t .size ≤ length ss) × Numbered k (counts cs ms n (t .locals) (t .size)) 0 (take (t .size) ss) × Threads k cs ms n (at + t .size) ts (drop (t .size) ss)
+
+-- What every program keeps that exists: its counts are within the limits, its initial codes are lawful, and each statement's fields fit.
+pub record WellFormed (k : Meaning) (p : Program) : Type 0 where
+  pub cells-few : length (p .cells) ≤ 16
+  pub mutexes-few : p .mutexes ≤ 8
+  pub threads-some : 1 ≤ length (p .texts)
+  pub threads-few : length (p .texts) ≤ 8
+  pub lawful : All (λ v. k .lawful v ≡ true) (p .cells)
+  pub threads : Threads k (length (p .cells)) (p .mutexes) (length (p .texts)) 0 (p .texts) (p .statements)
