@@ -2,6 +2,7 @@
 pub mod ask;
 pub mod body;
 pub mod context;
+pub mod lookup;
 pub mod past;
 pub mod reader;
 pub mod refusal;

@@ -7,3 +7,4 @@ pub mod Backs
 pub mod Accepted
 pub mod Saves
 pub mod Wells
+pub mod Texts

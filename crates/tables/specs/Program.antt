@@ -2,7 +2,10 @@
 use mathlib.Core.Bool.{cond}
 use mathlib.Core.List.{List, [], _∷_, _++_, map}
 use Prim.Native.Nat.{ℕ, _+_}
+use lib.ListN.{getD, take, drop}
+use Rattle.std.specs.declared.option.Option.{Option}
 use Rattle.std.specs.shelf.Lists.{kept-by}
+use Rattle.std.specs.shelf.Maps.{nth}
 use Rattle.tables.specs.declared.text.ThreadText.{ThreadText}
 use Rattle.records.specs.declared.statement.Statement.{Statement}
 use Rattle.records.specs.Bodies.{a, c, d, statement}
@@ -61,3 +64,22 @@ with-record p at r = record {
 -- where the statements of the text behind a record start
 abbrev pub behind : ℕ → List ℕ → ℕ
 behind at r = cond (th r) (at + a (body r)) at
+
+-- what stands where a program has no thread
+abbrev pub no-text : ThreadText
+no-text = record { locals = 0; first = 0; size = 0 }
+
+abbrev pub text-of : Program → ℕ → ThreadText
+text-of p i = getD (p .texts) i no-text
+
+-- how many statements thread i has
+abbrev pub size : Program → ℕ → ℕ
+size p i = text-of p i .size
+
+-- the statements of thread i
+abbrev pub own : Program → ℕ → List Statement
+own p i = take (text-of p i .size) (drop (text-of p i .first) (p .statements))
+
+-- the statement of thread i at the label t, if there is one
+abbrev pub due : Program → ℕ → ℕ → Option Statement
+due p i t = nth (own p i) t

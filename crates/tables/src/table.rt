@@ -5,6 +5,7 @@ use crate::text::ThreadText;
 use records::statement::Statement;
 
 mod loads;
+mod reads;
 mod saves;
 
 #[derive(Drop)]

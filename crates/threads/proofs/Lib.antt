@@ -1,0 +1,4 @@
+pub mod Runs
+pub mod Seeks
+pub mod Turning
+pub mod Running

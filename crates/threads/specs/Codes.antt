@@ -1,0 +1,19 @@
+-- Which states hold only lawful codes.
+use mathlib.Core.Path.{_≡_}
+use mathlib.Core.Bool.{true}
+use mathlib.Core.List.{List}
+use Prim.Native.Nat.{ℕ}
+use Rattle.std.specs.shelf.Lists.{All}
+use Rattle.kinds.specs.Meaning.{Meaning}
+use Rattle.threads.specs.declared.entry.ThreadEntry.{ThreadEntry}
+use Rattle.threads.specs.declared.state.State.{State}
+
+abbrev pub Lawful-codes : Meaning → List ℕ → Type 0
+Lawful-codes k cs = All (λ c. k .lawful c ≡ true) cs
+
+abbrev pub Lawful-entry : Meaning → ThreadEntry → Type 0
+Lawful-entry k e = Lawful-codes k (e .locals)
+
+pub record Lawful-state (k : Meaning) (s : State) : Type 0 where
+  pub cells : Lawful-codes k (s .cells)
+  pub locals : All (Lawful-entry k) (s .threads .entries)

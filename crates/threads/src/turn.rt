@@ -1,0 +1,136 @@
+// One number at a point: the slot that is due, and the way to the next one that exists.
+ghost use mathlib.Core.Path.{_≡_};
+ghost use Prim.Native.Nat.{_+_, _-_, _*_, _%_, _<_, _≤_};
+ghost use Rattle.tables.specs.Tables.{view};
+ghost use Rattle.threads.specs.Plays.{bound as most, serve as served-so, slot-total};
+ghost use Rattle.threads.specs.Slots.{ran};
+ghost use Rattle.threads.specs.Turns.{width, seek as first-existing, standing as stands-as, turn as turned-by, with-point, first as at-first};
+use crate::machine::Machine;
+use crate::point::Point;
+use crate::slot::Slot;
+use crate::slot::SlotCount;
+use crate::slot::SlotEnd;
+use crate::state::State;
+use kinds::Kind;
+use records::statement::Thread;
+use tables::table::Table;
+use walks::outcome::Ending;
+use walks::outcome::Outcome;
+
+// What a number came to: the statements carried out in its slot, and how the run stands then.
+#[derive(Clone, Copy)]
+pub struct Turn {
+    pub count: SlotCount,
+    pub outcome: Outcome,
+}
+
+impl State {
+    // The most statements that thread `i` can carry out.
+    fn bound(&self, table: &Table, i: Thread) -> u8
+        requires { ⌜ i .0 < 8 ⌝ }
+        ensures { λ r. ⌜ r ≡ most (view (now (table .entry))) (now (self .entry)) (i .0) ⌝ }
+    {
+        table.size(i).saturating_sub(self.threads.label(i).0)
+    }
+
+    // Thread `i`'s slot with the number `n`.
+    fn serve<V: Kind>(&mut self, table: &Table, i: Thread, n: SlotCount) -> Slot
+        requires { ⌜ i .0 < 8 ⌝ }
+        ensures { λ r. ⌜ ran r (now (self .exit)) ≡ served-so meaning (view (now (table .entry))) (i .0) (now (self .entry)) (n .0) ⌝ }
+    {
+        if n.0 > self.bound(table, i) {
+            return Slot {
+                end: SlotEnd::Cut,
+                count: SlotCount(0),
+            };
+        }
+        self.run_slot::<V>(table, i, n)
+    }
+}
+
+impl<V: Kind> Machine<V> {
+    // How many slots a run has.
+    fn slots(&self) -> u8
+        ensures value { λ r. ⌜ r ≡ slot-total (view (now (self .entry) .table)) (now (self .entry) .rounds) ⌝ }
+        ensures few { λ r. ⌜ r ≤ 64 ⌝ }
+    {
+        self.rounds() * self.table.threads()
+    }
+
+    // The thread that has slot `q`.
+    fn thread_at(&self, q: u8) -> Thread
+        requires { ⌜ q < slot-total (view (now self .table)) (now self .rounds) ⌝ }
+        ensures value { λ r. ⌜ r .0 ≡ q % width (view (now (self .entry) .table)) ⌝ }
+        ensures few { λ r. ⌜ r .0 < 8 ⌝ }
+    {
+        Thread(q % self.table.threads())
+    }
+}
+
+impl<V: Kind> Machine<V> {
+    // The first slot from `from` on whose thread is created, or the number of all slots.
+    fn seek(&self, state: &State, from: u8) -> u8
+        requires { ⌜ from ≤ slot-total (view (now self .table)) (now self .rounds) ⌝ }
+        ensures { λ r. ⌜ r ≡ first-existing (view (now (self .entry) .table)) (now (state .entry)) (slot-total (view (now (self .entry) .table)) (now (self .entry) .rounds) - from) from ⌝ }
+    {
+        let slots = self.slots();
+        for q in from..slots {
+            if state.threads.created(self.thread_at(q)) {
+                return q;
+            }
+        }
+        slots
+    }
+
+    // What a run comes to that stands at a point, with no number left.
+    pub fn standing(&self, at: &Point) -> Outcome
+        ensures { λ r. ⌜ r ≡ stands-as (view (now (self .entry) .table)) (slot-total (view (now (self .entry) .table)) (now (self .entry) .rounds)) (now (at .entry)) ⌝ }
+    {
+        if at.slot < self.slots() {
+            Outcome::Open(at.state.bound(&self.table, self.thread_at(at.slot)))
+        } else {
+            Outcome::Ended(Ending::Full)
+        }
+    }
+
+    // The point before the first number.
+    pub fn first(&self) -> Point
+        ensures { λ r. ⌜ r ≡ at-first meaning (view (now (self .entry) .table)) (slot-total (view (now (self .entry) .table)) (now (self .entry) .rounds)) ⌝ }
+    {
+        let state = State::start::<V>(&self.table);
+        let slot = self.seek(&state, 0);
+        Point { slot, state }
+    }
+
+    // Goes on from a point by one number.
+    pub fn turn(&self, at: &mut Point, number: u8) -> Turn
+        ensures { λ r. ⌜ with-point r (now (at .exit)) ≡ turned-by meaning (view (now (self .entry) .table)) (slot-total (view (now (self .entry) .table)) (now (self .entry) .rounds)) (now (at .entry)) number ⌝ }
+    {
+        if at.slot >= self.slots() {
+            return Turn {
+                count: SlotCount(0),
+                outcome: Outcome::Ended(Ending::Full),
+            };
+        }
+        let i = self.thread_at(at.slot);
+        let slot = at.state.serve::<V>(&self.table, i, SlotCount(number));
+        let count = slot.count;
+        match slot.end {
+            SlotEnd::Failed => Turn {
+                count,
+                outcome: Outcome::Ended(Ending::Failed),
+            },
+            SlotEnd::Cut => Turn {
+                count,
+                outcome: Outcome::Ended(Ending::Cut),
+            },
+            SlotEnd::Done => {
+                at.slot = self.seek(&at.state, at.slot + 1);
+                Turn {
+                    count,
+                    outcome: self.standing(at),
+                }
+            }
+        }
+    }
+}

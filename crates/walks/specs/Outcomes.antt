@@ -1,0 +1,9 @@
+-- What is said of an outcome.
+use Prim.Native.Nat.{ℕ}
+use Rattle.walks.specs.declared.outcome.Outcome.{Outcome}
+use Rattle.walks.specs.declared.outcome.Outcome.the-variants.{Open, Ended}
+
+-- the bound of the number that is wanted, and 0 of a run that has ended
+abbrev pub bound : Outcome → ℕ
+bound (Open b) = b
+bound (Ended e) = 0

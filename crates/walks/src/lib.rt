@@ -1,0 +1,2 @@
+// What a list of numbers comes to.
+pub mod outcome;
