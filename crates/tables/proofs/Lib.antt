@@ -6,5 +6,7 @@ pub mod Rows
 pub mod Backs
 pub mod Accepted
 pub mod Saves
+pub mod Creates
 pub mod Wells
 pub mod Texts
+pub mod Returns

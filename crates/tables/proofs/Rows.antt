@@ -2,7 +2,7 @@
 use mathlib.Core.Path.{_≡_, refl, sym, ap, _∙_}
 use mathlib.Core.Bool.{Bool, true, false, cond, _&&_, _||_}
 use mathlib.Core.List.{List, [], _∷_}
-use Prim.Native.Nat.{ℕ, zero, suc, _+_, _-_, _*_, _/_, _%_, _<_, _≤_}
+use Prim.Native.Nat.{ℕ, zero, suc, _+_, _-_, _*_, _/_, _%_, _^_, _<_, _≤_}
 use native.Mathlib.Omega.{arith}
 use lib.Dec.{eqb, leb, ltb}
 use lib.ListN.{length, getD}
@@ -154,30 +154,30 @@ header-ten k r0 r1 r2 r3 r4 r5 r6 r7 r8 r9 m e =
 pub header-back : (k : Meaning) (r : List ℕ) → length r ≡ 10 → HeaderBack k r
 header-back k r w = by-ten (HeaderBack k) (header-ten k) r w
 
--- a label is a byte
-abbrev pub Labels : Statement → Type 0
-Labels (Set p v) = Unit {0}
-Labels (Copy p q) = Unit {0}
-Labels (Sum p q r) = Unit {0}
-Labels (Difference p q r) = Unit {0}
-Labels (Less p q r) = Unit {0}
-Labels (Same p q r) = Unit {0}
-Labels (Jump t) = t .0 < 256
-Labels (Branch p t) = t .0 < 256
-Labels (Assume p) = Unit {0}
-Labels (Assert p) = Unit {0}
-Labels (Init m) = Unit {0}
-Labels (Destroy m) = Unit {0}
-Labels (Lock m) = Unit {0}
-Labels (Unlock m) = Unit {0}
-Labels (Create j) = Unit {0}
-Labels (Join j) = Unit {0}
+-- a label is a byte, and a code has 32 bits
+abbrev pub Low : Statement → Type 0
+Low (Set p v) = v < 2 ^ 32
+Low (Copy p q) = Unit {0}
+Low (Sum p q r) = Unit {0}
+Low (Difference p q r) = Unit {0}
+Low (Less p q r) = Unit {0}
+Low (Same p q r) = Unit {0}
+Low (Jump t) = t .0 < 256
+Low (Branch p t) = t .0 < 256
+Low (Assume p) = Unit {0}
+Low (Assert p) = Unit {0}
+Low (Init m) = Unit {0}
+Low (Destroy m) = Unit {0}
+Low (Lock m) = Unit {0}
+Low (Unlock m) = Unit {0}
+Low (Create j) = Unit {0}
+Low (Join j) = Unit {0}
 
 -- the bytes behind op of a statement whose op is o
 module _ (k : Meaning) (x : Context) (n r3 r4 r5 r6 r7 r8 r9 : ℕ) (size : x .size < 256) (h3 : r3 < 256) (h4 : r4 < 256) (h5 : r5 < 256) (h6 : r6 < 256) (h7 : r7 < 256) (h8 : r8 < 256) (h9 : r9 < 256) where
   abbrev OpBack : ℕ → Type 0
   OpBack o =
-      Blank (fields o) (o ∷ r3 ∷ r4 ∷ r5 ∷ r6 ∷ r7 ∷ r8 ∷ r9 ∷ []) → ask-fields k x n (o ∷ r3 ∷ r4 ∷ r5 ∷ r6 ∷ r7 ∷ r8 ∷ r9 ∷ []) (statement (o ∷ r3 ∷ r4 ∷ r5 ∷ r6 ∷ r7 ∷ r8 ∷ r9 ∷ [])) ≡ fine → (statement-row (statement (o ∷ r3 ∷ r4 ∷ r5 ∷ r6 ∷ r7 ∷ r8 ∷ r9 ∷ [])) ≡ 83 ∷ 84 ∷ o ∷ r3 ∷ r4 ∷ r5 ∷ r6 ∷ r7 ∷ r8 ∷ r9 ∷ []) × Labels (statement (o ∷ r3 ∷ r4 ∷ r5 ∷ r6 ∷ r7 ∷ r8 ∷ r9 ∷ []))
+      Blank (fields o) (o ∷ r3 ∷ r4 ∷ r5 ∷ r6 ∷ r7 ∷ r8 ∷ r9 ∷ []) → ask-fields k x n (o ∷ r3 ∷ r4 ∷ r5 ∷ r6 ∷ r7 ∷ r8 ∷ r9 ∷ []) (statement (o ∷ r3 ∷ r4 ∷ r5 ∷ r6 ∷ r7 ∷ r8 ∷ r9 ∷ [])) ≡ fine → (statement-row (statement (o ∷ r3 ∷ r4 ∷ r5 ∷ r6 ∷ r7 ∷ r8 ∷ r9 ∷ [])) ≡ 83 ∷ 84 ∷ o ∷ r3 ∷ r4 ∷ r5 ∷ r6 ∷ r7 ∷ r8 ∷ r9 ∷ []) × Low (statement (o ∷ r3 ∷ r4 ∷ r5 ∷ r6 ∷ r7 ∷ r8 ∷ r9 ∷ []))
 
   label-back : (c (0 ∷ 0 ∷ 0 ∷ 0 ∷ r6 ∷ r7 ∷ r8 ∷ r9 ∷ []) ≤ x .size) → four r9 ≡ r6 ∷ r7 ∷ r8 ∷ r9 ∷ []
   label-back h =
@@ -198,7 +198,7 @@ module _ (k : Meaning) (x : Context) (n r3 r4 r5 r6 r7 r8 r9 : ℕ) (size : x .s
       let e4 = eqb-true r4 0 (t .of-a) in
       let e5 = eqb-true r5 0 (t .of-b) in
       let f = four-back r6 r7 r8 r9 h6 h7 h8 h9 in
-      ((cc), tt)
+      ((cc), omega arith)
 
   op-2 : OpBack 2
   op-2 t v =
@@ -377,7 +377,7 @@ by-op P p1 p2 p3 p4 p5 p6 p7 p8 p9 p10 p11 p12 p13 p14 p15 p16 (suc (suc (suc (s
 by-op P p1 p2 p3 p4 p5 p6 p7 p8 p9 p10 p11 p12 p13 p14 p15 p16 (suc (suc (suc (suc (suc (suc (suc (suc (suc (suc (suc (suc (suc (suc (suc (suc (suc m))))))))))))))))) h l = absurd (omega arith)
 
 abbrev pub StatementBack : Meaning → Context → ℕ → List ℕ → Type 0
-StatementBack k x n r = Whole r → x .size < 256 → st r ≡ true → ask-statement k x n (body r) ≡ fine → (statement-row (told r) ≡ r) × Labels (told r)
+StatementBack k x n r = Whole r → x .size < 256 → st r ≡ true → ask-statement k x n (body r) ≡ fine → (statement-row (told r) ≡ r) × Low (told r)
 
 statement-ten : (k : Meaning) (x : Context) (n : ℕ) (r0 r1 r2 r3 r4 r5 r6 r7 r8 r9 : ℕ) → StatementBack k x n (r0 ∷ r1 ∷ r2 ∷ r3 ∷ r4 ∷ r5 ∷ r6 ∷ r7 ∷ r8 ∷ r9 ∷ [])
 statement-ten k x n r0 r1 r2 r3 r4 r5 r6 r7 r8 r9 w z m e =

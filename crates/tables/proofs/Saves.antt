@@ -5,7 +5,8 @@ use mathlib.Core.Logic.{_⊎_, inl, inr}
 use Prim.Native.Nat.{ℕ, suc, min, _+_, _-_, _*_, _<_, _≤_}
 use native.Mathlib.Omega.{arith}
 use lib.Dec.{leb}
-use lib.ListN.{length, take, drop, getD, length-append}
+use lib.ListN.{length, take, drop, getD, length-append, length-map}
+use Rattle.std.specs.shelf.Lists.{All}
 use Rattle.std.proofs.shelf.Lists.{drop-more, drop-all, drop-drop, take-all, length-drop, length-take-le}
 use Rattle.std.proofs.shelf.Tests.{cases-lt, lt-leb, le-leb, cond-true, cond-false}
 use Rattle.records.specs.declared.statement.Statement.{Statement}
@@ -17,13 +18,8 @@ use Rattle.records.specs.declared.refusal.Refusal.{Refusal}
 use Rattle.records.specs.declared.refusal.Refusal.the-variants.{BufferShort}
 use Rattle.std.specs.declared.result.Result.{Result}
 use Rattle.std.specs.declared.result.Result.the-variants.{Ok, Err}
-use Rattle.kinds.specs.Meaning.{Meaning}
-use Rattle.records.specs.Lines.{Bytes}
-use Rattle.tables.specs.Program.{Program, decoded}
-use Rattle.tables.specs.Question.{question}
-use Rattle.tables.specs.Answer.{accepted}
+use Rattle.tables.specs.Program.{Program}
 use Rattle.records.specs.Wrote.{wrote, counted, filled}
-use Rattle.tables.proofs.Accepted.{comes-back}
 use Rattle.records.proofs.Writes.{wrote-more, both}
 
 pub cells-more : (ns : List ℕ) (i n : ℕ) (r : List ℕ) → i < length ns → n ≡ getD ns i n → r ≡ cell-row i n → cell-bytes i ns ≡ r ++ cell-bytes (i + 1) ns
@@ -78,6 +74,14 @@ threads-more ts ss i t from n h e q =
 pub threads-all : (ts : List ThreadText) (ss : List Statement) (i from : ℕ) → length ts ≤ i → thread-bytes i ts from ss ≡ []
 threads-all ts ss i from h = ap (λ xs. flat (thread-rows i xs (drop from ss))) (drop-all i ts h)
 
+-- a record has ten bytes
+abbrev pub Ten : List ℕ → Type 0
+Ten r = length r ≡ 10
+
+pub length-flat : (rs : List (List ℕ)) → All Ten rs → length (flat rs) ≡ 10 * length rs
+length-flat [] h = refl
+length-flat (r ∷ rs) h = omega (arith, length-append r (flat rs), length-flat rs (h .1))
+
 length-statement-row : (s : Statement) → length (statement-row s) ≡ 10
 length-statement-row (Set p q) = refl
 length-statement-row (Copy p q) = refl
@@ -96,9 +100,12 @@ length-statement-row (Unlock p) = refl
 length-statement-row (Create p) = refl
 length-statement-row (Join p) = refl
 
+pub ten-statements : (ss : List Statement) → All Ten (map statement-row ss)
+ten-statements [] = tt
+ten-statements (s ∷ ss) = (length-statement-row s, ten-statements ss)
+
 length-rows : (ss : List Statement) → length (flat (map statement-row ss)) ≡ 10 * length ss
-length-rows [] = refl
-length-rows (s ∷ ss) = omega (arith, length-append (statement-row s) (flat (map statement-row ss)), length-statement-row s, length-rows ss)
+length-rows ss = omega (arith, length-flat (map statement-row ss) (ten-statements ss), length-map ss statement-row)
 
 -- the bytes of a text with n statements
 pub length-text : (i : ℕ) (t : ThreadText) (ss : List Statement) (from n : ℕ) → from + n ≤ length ss → length (own-thread-bytes i t from n ss) ≡ 10 + 10 * n
@@ -107,9 +114,16 @@ length-text i t ss from n h =
     let m = length-take-le n (drop from ss) (omega (arith, length-drop from ss)) in
     omega (arith, length-append (thread-row i t) (flat (map statement-row (take n (drop from ss)))))
 
+pub ten-cells : (i : ℕ) (ns : List ℕ) → All Ten (cell-rows i ns)
+ten-cells i [] = tt
+ten-cells i (n ∷ ns) = (refl, ten-cells (i + 1) ns)
+
+pub count-cells : (i : ℕ) (ns : List ℕ) → length (cell-rows i ns) ≡ length ns
+count-cells i [] = refl
+count-cells i (n ∷ ns) = ap suc (count-cells (i + 1) ns)
+
 pub length-cells : (i : ℕ) (ns : List ℕ) → length (flat (cell-rows i ns)) ≡ 10 * length ns
-length-cells i [] = refl
-length-cells i (n ∷ ns) = omega (arith, length-append (cell-row i n) (flat (cell-rows (i + 1) ns)), length-cells (i + 1) ns)
+length-cells i ns = omega (arith, length-flat (cell-rows i ns) (ten-cells i ns), count-cells i ns)
 
 pub encoded-parts : (byte : ℕ) (p : Program) → encoded byte p ≡ header-row byte p ++ (cell-bytes 0 (p .cells) ++ thread-bytes 0 (p .texts) 0 (p .statements))
 encoded-parts byte p = ap (λ bs. header-row byte p ++ bs) (flat-append (cell-rows 0 (p .cells)) (thread-rows 0 (p .texts) (p .statements)))
@@ -147,6 +161,3 @@ enough out bs n e h =
     let l = le-leb (length bs) (length out) (omega arith) in
     let z : 0 + length bs ≡ length bs = omega arith in
     (ap (λ m. Ok m) e ∙ sym (cond-true (leb (length bs) (length out)) (Ok (length bs)) (Err BufferShort) l), ap (λ m. bs ++ drop m out) z ∙ sym (cond-true (leb (length bs) (length out)) (bs ++ drop (length bs) out) out l))
-
-pub again : (k : Meaning) (p : Program) (f : List ℕ) → Bytes f → question k f ≡ accepted → p ≡ decoded f → question k (encoded (k .byte) p) ≡ accepted
-again k p f b q e = ap (question k) (ap (encoded (k .byte)) e ∙ comes-back k f b q) ∙ q

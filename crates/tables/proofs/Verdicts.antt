@@ -19,5 +19,8 @@ pub from-then : (u v : Verdict) → then u v ≡ fine → (u ≡ fine) × (v ≡
 from-then (Ok u) v e = (refl, e)
 from-then (Err x) v e = never x e
 
+pub to-asked : (g : Bool) (why : Refusal) (m : ℕ) (v : Verdict) → g ≡ true → v ≡ fine → asked g why m v ≡ fine
+to-asked g why m v e h = ap (λ b. asked b why m v) e ∙ h
+
 pub asked-false : (g : Bool) (why : Refusal) (m : ℕ) (v : Verdict) → g ≡ false → asked g why m v ≡ bad why m
 asked-false g why m v e = ap (λ b. asked b why m v) e

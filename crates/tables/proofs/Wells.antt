@@ -2,12 +2,15 @@
 use mathlib.Core.Path.{_≡_, refl, sym, ap, subst, _∙_}
 use mathlib.Core.Bool.{Bool, true, false, cond, not, _&&_}
 use mathlib.Core.List.{List, [], _∷_, _++_, map}
-use Prim.Native.Nat.{ℕ, suc, suc-le-suc, _+_, _-_, _*_, _/_, _%_, _<_, _≤_}
+use Prim.Native.Nat.{ℕ, suc, suc-le-suc, _+_, _-_, _*_, _/_, _%_, _^_, _<_, _≤_}
+use native.Mathlib.Nat.{div-div-eq-div-mul}
 use native.Mathlib.Omega.{arith}
 use lib.Dec.{eqb, leb, ltb}
 use lib.ListN.{length, take, drop}
 use Rattle.kinds.specs.Meaning.{Meaning}
 use Rattle.std.specs.shelf.Lists.{kept-by, All}
+use Rattle.std.proofs.shelf.Lists.{getD-drop}
+use Rattle.std.proofs.shelf.Elements.{all-map, all-kept-by, all-weaker}
 use Rattle.std.proofs.shelf.Tests.{and-parts, cond-both, leb-true, ltb-true, ltb-false}
 use Rattle.records.specs.declared.context.Context.{Context}
 use Rattle.records.specs.declared.context.Due.{Due}
@@ -23,23 +26,33 @@ use Rattle.records.specs.Lines.{Bytes, line, lines, pg, sc, th, st, body}
 use Rattle.records.specs.Asks.{exists, target, named, ask, asks, ask-header, ask-cell, ask-thread, ask-statement, ask-known, ask-fields}
 use Rattle.records.specs.Past.{past, passes, start, begun, from-cell, from-thread, from-statement, bounded, Sound}
 use Rattle.records.specs.Rows.{four, statement-row}
-use Rattle.tables.specs.WellFormed.{Counts, counts, There, Fit, Numbered, Threads, WellFormed}
+use Rattle.tables.specs.WellFormed.{Counts, counts, There, Fit, Numbered, Threads, WellFormed, creates}
 use Rattle.tables.specs.Question.{follow, ended, question}
 use Rattle.tables.specs.Program.{code, told, texts, onto, bare, decoded}
 use Rattle.tables.proofs.Verdicts.{from-asked, from-then}
 use Rattle.tables.proofs.Sounds.{past-sound}
-use Rattle.tables.proofs.Rows.{Labels, Whole, text-back, statement-back, header-back}
+use Rattle.tables.proofs.Rows.{Low, Whole, text-back, statement-back, header-back}
 use Rattle.tables.proofs.Backs.{onward-parts, only-pg, only-sc, only-th, only-st, keep, leave, size-past}
 use Rattle.tables.proofs.Accepted.{parts, counted-cells, counted-texts, first-line, whole-lines}
+use Rattle.tables.proofs.Creates.{once-rows}
 use Rattle.records.specs.declared.refusal.Refusal.the-variants as no
 
 -- c of a record whose c is n
-abbrev wide : ℕ → ℕ
+abbrev pub wide : ℕ → ℕ
 wide n = n / 16777216 % 256 * 16777216 + n / 65536 % 256 * 65536 + n / 256 % 256 * 256 + n % 256
+
+pub wide-back : (v : ℕ) → v < 2 ^ 32 → wide v ≡ v
+wide-back v h =
+    let e : v / 65536 ≡ v / 256 / 256 = sym (div-div-eq-div-mul v 256 256) in
+    let f : v / 16777216 ≡ v / 65536 / 256 = sym (div-div-eq-div-mul v 65536 256) in
+    let p : v / 16777216 % 256 ≡ v / 16777216 = omega arith in
+    let q : v / 65536 ≡ 256 * (v / 16777216) + v / 65536 % 256 = omega arith in
+    let r : v / 256 ≡ 256 * (v / 65536) + v / 256 % 256 = omega arith in
+    omega arith
 
 aimed : (x : Context) (n t : ℕ) → t < 256 → (ltb n (wide t) && leb (wide t) (x .size)) ≡ true → (n < t) × (t ≤ x .size)
 aimed x n t l e =
-    let z : wide t ≡ t = omega arith in
+    let z = wide-back t (omega arith) in
     let p = and-parts (ltb n (wide t)) (leb (wide t) (x .size)) e in
     (omega (arith, ltb-true n (wide t) (p .0)), omega (arith, leb-true (wide t) (x .size) (p .1)))
 
@@ -50,10 +63,10 @@ there : (x : Context) (p : Place) → exists x p ≡ true → There (counts-of x
 there x (Shared n) e = ltb-true n (x .cells) e
 there x (Local n) e = ltb-true n (x .locals) e
 
-pub fit-row : (k : Meaning) (x : Context) (n : ℕ) (s : s.Statement) → Labels s → ask-fields k x n (body (statement-row s)) s ≡ fine → Fit k (counts-of x) n s
+pub fit-row : (k : Meaning) (x : Context) (n : ℕ) (s : s.Statement) → Low s → ask-fields k x n (body (statement-row s)) s ≡ fine → Fit k (counts-of x) n s
 fit-row k x n (Set p v) l e =
     let u = from-asked (exists x p) no.Place 3 (asked (k .lawful v) no.Code 6 fine) e in
-    (there x p (u .0), from-asked (k .lawful v) no.Code 6 fine (u .1) .0)
+    (there x p (u .0), from-asked (k .lawful v) no.Code 6 fine (u .1) .0, l)
 fit-row k x n (Copy p q) l e =
     let u = from-asked (exists x p) no.Place 3 (asked (exists x q) no.Place 4 fine) e in
     (there x p (u .0), there x q (from-asked (exists x q) no.Place 4 fine (u .1) .0))
@@ -174,6 +187,10 @@ w-main k x i (r ∷ rs) s z w h =
     let p = onward-parts (ask k x r) i (follow k (past x r) (i + 1) rs) h in
     w-front k x (x .due) r rs s z (w .0) (p .0) (w-main k (past x r) (i + 1) rs (past-sound x r s) (size-past x (x .due) r z (w .0)) (w .1) (p .1))
 
+low-code : (r : List ℕ) → Whole r → code r < 2 ^ 32
+low-code r w =
+    omega (arith, getD-drop 2 r 4 0, getD-drop 2 r 5 0, getD-drop 2 r 6 0, getD-drop 2 r 7 0, w .small 6, w .small 7, w .small 8, w .small 9)
+
 well-rows : (k : Meaning) (r : List ℕ) (rs : List (List ℕ)) → All Whole (r ∷ rs) → follow k start 0 (r ∷ rs) ≡ accepted → WellFormed k (onto (bare (a (body r))) 0 (r ∷ rs))
 well-rows k r rs w u =
     let v = onward-parts (ask k start r) 0 (follow k (past start r) (0 + 1) rs) u in
@@ -192,10 +209,12 @@ well-rows k r rs w u =
       threads-some = omega (arith, m, t .4);
       threads-few = omega (arith, m, t .2);
       lawful = subst (λ zs. All (λ v. k .lawful v ≡ true) (map code zs)) (sym k1) (g .0);
+      words = all-map (λ v. v < 2 ^ 32) code (kept-by sc (r ∷ rs)) (all-kept-by sc (λ z. code z < 2 ^ 32) (r ∷ rs) (all-weaker Whole (λ z. code z < 2 ^ 32) low-code (r ∷ rs) w));
       threads =
           subst (λ y. Threads k y (a (body r)) (length (texts 0 (kept-by th (r ∷ rs)))) 0 (texts 0 (kept-by th (r ∷ rs))) (map told (kept-by st (r ∷ rs)))) (sym n)
           (subst (λ y. Threads k (d (body r)) (a (body r)) y 0 (texts 0 (kept-by th (r ∷ rs))) (map told (kept-by st (r ∷ rs)))) (sym m)
           (moved k (begun (body r)) (kept-by th (r ∷ rs)) (kept-by th rs) (kept-by st (r ∷ rs)) (kept-by st rs) k2 k3 (g .1) 0));
+      once = λ j. omega (arith, once-rows k r rs (t .2) (w .1) (v .1) j, ap (λ us. creates j (map told us)) k3);
     }
 
 pub well : (k : Meaning) (f : List ℕ) → Bytes f → question k f ≡ accepted → WellFormed k (decoded f)

@@ -2,3 +2,5 @@ pub mod Runs
 pub mod Seeks
 pub mod Turning
 pub mod Running
+pub mod Lawfuls
+pub mod Playing

@@ -2,11 +2,9 @@
 ghost use mathlib.Core.Path.{_≡_};
 ghost use Prim.Native.Nat.{_≤_};
 ghost use lib.ListN.{length};
-ghost use Rattle.kinds.specs.Meaning.{Meaning};
-ghost use Rattle.tables.specs.Tables.{view};
 ghost use Rattle.tables.specs.WellFormed.{WellFormed};
 ghost use Rattle.threads.specs.Codes.{Lawful-codes};
-ghost use Rattle.threads.specs.Plays.{play as played-so, slot-total, cells-of};
+ghost use Rattle.threads.specs.Machines.{program, total, plays, cells-left};
 ghost use Rattle.threads.specs.Reports.{reported, front, refusal, answered, unless};
 ghost use Rattle.threads.specs.Turns.{Stands, rest};
 use crate::machine::Machine;
@@ -28,10 +26,10 @@ impl<V: Kind> Machine<V> {
     fn run(&self, at: &mut Point, numbers: &[u8], counts: &mut [u8]) -> Report
         requires few { ⌜ length (now numbers) ≤ 64 ⌝ }
         requires room { ⌜ length (now numbers) ≤ length (now counts) ⌝ }
-        requires stands { ⌜ Stands (view (now self .table)) (slot-total (view (now self .table)) (now self .rounds)) (now at) ⌝ }
-        ensures report { λ r. ⌜ r ≡ reported (rest meaning (view (now (self .entry) .table)) (slot-total (view (now (self .entry) .table)) (now (self .entry) .rounds)) (now (at .entry)) (now (numbers .entry))) ⌝ }
-        ensures counts { λ _. ⌜ now (counts .exit) ≡ front (rest meaning (view (now (self .entry) .table)) (slot-total (view (now (self .entry) .table)) (now (self .entry) .rounds)) (now (at .entry)) (now (numbers .entry)) .counts) (now (counts .entry)) ⌝ }
-        ensures state { λ _. ⌜ now (at .exit) .state ≡ rest meaning (view (now (self .entry) .table)) (slot-total (view (now (self .entry) .table)) (now (self .entry) .rounds)) (now (at .entry)) (now (numbers .entry)) .state ⌝ }
+        requires stands { ⌜ Stands (program (now self)) (total (now self)) (now at) ⌝ }
+        ensures report { λ r. ⌜ r ≡ reported (rest meaning (program (now (self .entry))) (total (now (self .entry))) (now (at .entry)) (now (numbers .entry))) ⌝ }
+        ensures counts { λ _. ⌜ now (counts .exit) ≡ front (rest meaning (program (now (self .entry))) (total (now (self .entry))) (now (at .entry)) (now (numbers .entry)) .counts) (now (counts .entry)) ⌝ }
+        ensures state { λ _. ⌜ now (at .exit) .state ≡ rest meaning (program (now (self .entry))) (total (now (self .entry))) (now (at .entry)) (now (numbers .entry)) .state ⌝ }
     {
         let mut outcome = self.standing(at);
         let mut carried: u16 = 0;
@@ -52,6 +50,58 @@ impl<V: Kind> Machine<V> {
             outcome,
             read: numbers.len() as u8,
             carried,
+        }
+    }
+}
+
+impl<V: Kind> Machine<V> {
+    // The questions of `play`: the numbers, and the room for what is written.
+    fn asked(&self, numbers: &[u8], counts: &[u8], cells: &[u32]) -> Result<(), Refusal>
+        ensures { λ r. ⌜ r ≡ answered (refusal (now (numbers .entry)) (now (counts .entry)) (now (cells .entry)) (program (now (self .entry)) .cells)) tt ⌝ }
+    {
+        if numbers.len() > 64 {
+            return Err(Refusal::ListLength);
+        }
+        if counts.len() < numbers.len() {
+            return Err(Refusal::BufferShort);
+        }
+        if cells.len() < self.table.cells().len() {
+            return Err(Refusal::BufferShort);
+        }
+        Ok(())
+    }
+
+    // `play` once its questions have a yes.
+    fn played(&self, numbers: &[u8], counts: &mut [u8], cells: &mut [u32]) -> Report
+        requires few { ⌜ length (now numbers) ≤ 64 ⌝ }
+        requires room { ⌜ length (now numbers) ≤ length (now counts) ⌝ }
+        requires cells { ⌜ length (program (now self) .cells) ≤ length (now cells) ⌝ }
+        ensures report { λ r. ⌜ r ≡ reported (plays meaning (now (self .entry)) (now (numbers .entry))) ⌝ }
+        ensures counts { λ _. ⌜ now (counts .exit) ≡ front (plays meaning (now (self .entry)) (now (numbers .entry)) .counts) (now (counts .entry)) ⌝ }
+        ensures cells { λ _. ⌜ now (cells .exit) ≡ front (cells-left meaning (now (self .entry)) (now (numbers .entry))) (now (cells .entry)) ⌝ }
+    {
+        let mut at = self.first();
+        let report = self.run(&mut at, numbers, counts);
+        let own = self.table.cells().len();
+        cells[0..own].copy_from_slice(&at.state.cells[0..own]);
+        report
+    }
+
+    // Runs over a schedule, and writes a slot count for each number that is read, and the cells that the run leaves.
+    pub fn play(
+        &self,
+        numbers: &[u8],
+        counts: &mut [u8],
+        cells: &mut [u32],
+    ) -> Result<Report, Refusal>
+        ensures answer { λ r. ⌜ r ≡ answered (refusal (now (numbers .entry)) (now (counts .entry)) (now (cells .entry)) (program (now (self .entry)) .cells)) (reported (plays meaning (now (self .entry)) (now (numbers .entry)))) ⌝ }
+        ensures counts { λ _. ⌜ now (counts .exit) ≡ unless (refusal (now (numbers .entry)) (now (counts .entry)) (now (cells .entry)) (program (now (self .entry)) .cells)) (front (plays meaning (now (self .entry)) (now (numbers .entry)) .counts) (now (counts .entry))) (now (counts .entry)) ⌝ }
+        ensures cells { λ _. ⌜ now (cells .exit) ≡ unless (refusal (now (numbers .entry)) (now (counts .entry)) (now (cells .entry)) (program (now (self .entry)) .cells)) (front (cells-left meaning (now (self .entry)) (now (numbers .entry))) (now (cells .entry))) (now (cells .entry)) ⌝ }
+        ensures lawful { λ _. ⌜ (WellFormed meaning (program (now (self .entry))) → Lawful-codes meaning (cells-left meaning (now (self .entry)) (now (numbers .entry)))) ⌝ }
+    {
+        match self.asked(numbers, counts, cells) {
+            Err(refusal) => Err(refusal),
+            Ok(()) => Ok(self.played(numbers, counts, cells)),
         }
     }
 }

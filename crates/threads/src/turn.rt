@@ -2,7 +2,8 @@
 ghost use mathlib.Core.Path.{_≡_};
 ghost use Prim.Native.Nat.{_+_, _-_, _*_, _%_, _<_, _≤_};
 ghost use Rattle.tables.specs.Tables.{view};
-ghost use Rattle.threads.specs.Plays.{bound as most, serve as served-so, slot-total};
+ghost use Rattle.threads.specs.Machines.{program, total};
+ghost use Rattle.threads.specs.Plays.{bound as most, serve as served-so};
 ghost use Rattle.threads.specs.Slots.{ran};
 ghost use Rattle.threads.specs.Turns.{width, seek as first-existing, standing as stands-as, turn as turned-by, with-point, first as at-first};
 use crate::machine::Machine;
@@ -51,7 +52,7 @@ impl State {
 impl<V: Kind> Machine<V> {
     // How many slots a run has.
     fn slots(&self) -> u8
-        ensures value { λ r. ⌜ r ≡ slot-total (view (now (self .entry) .table)) (now (self .entry) .rounds) ⌝ }
+        ensures value { λ r. ⌜ r ≡ total (now (self .entry)) ⌝ }
         ensures few { λ r. ⌜ r ≤ 64 ⌝ }
     {
         self.rounds() * self.table.threads()
@@ -59,8 +60,8 @@ impl<V: Kind> Machine<V> {
 
     // The thread that has slot `q`.
     fn thread_at(&self, q: u8) -> Thread
-        requires { ⌜ q < slot-total (view (now self .table)) (now self .rounds) ⌝ }
-        ensures value { λ r. ⌜ r .0 ≡ q % width (view (now (self .entry) .table)) ⌝ }
+        requires { ⌜ q < total (now self) ⌝ }
+        ensures value { λ r. ⌜ r .0 ≡ q % width (program (now (self .entry))) ⌝ }
         ensures few { λ r. ⌜ r .0 < 8 ⌝ }
     {
         Thread(q % self.table.threads())
@@ -70,8 +71,8 @@ impl<V: Kind> Machine<V> {
 impl<V: Kind> Machine<V> {
     // The first slot from `from` on whose thread is created, or the number of all slots.
     fn seek(&self, state: &State, from: u8) -> u8
-        requires { ⌜ from ≤ slot-total (view (now self .table)) (now self .rounds) ⌝ }
-        ensures { λ r. ⌜ r ≡ first-existing (view (now (self .entry) .table)) (now (state .entry)) (slot-total (view (now (self .entry) .table)) (now (self .entry) .rounds) - from) from ⌝ }
+        requires { ⌜ from ≤ total (now self) ⌝ }
+        ensures { λ r. ⌜ r ≡ first-existing (program (now (self .entry))) (now (state .entry)) (total (now (self .entry)) - from) from ⌝ }
     {
         let slots = self.slots();
         for q in from..slots {
@@ -84,7 +85,7 @@ impl<V: Kind> Machine<V> {
 
     // What a run comes to that stands at a point, with no number left.
     pub fn standing(&self, at: &Point) -> Outcome
-        ensures { λ r. ⌜ r ≡ stands-as (view (now (self .entry) .table)) (slot-total (view (now (self .entry) .table)) (now (self .entry) .rounds)) (now (at .entry)) ⌝ }
+        ensures { λ r. ⌜ r ≡ stands-as (program (now (self .entry))) (total (now (self .entry))) (now (at .entry)) ⌝ }
     {
         if at.slot < self.slots() {
             Outcome::Open(at.state.bound(&self.table, self.thread_at(at.slot)))
@@ -95,7 +96,7 @@ impl<V: Kind> Machine<V> {
 
     // The point before the first number.
     pub fn first(&self) -> Point
-        ensures { λ r. ⌜ r ≡ at-first meaning (view (now (self .entry) .table)) (slot-total (view (now (self .entry) .table)) (now (self .entry) .rounds)) ⌝ }
+        ensures { λ r. ⌜ r ≡ at-first meaning (program (now (self .entry))) (total (now (self .entry))) ⌝ }
     {
         let state = State::start::<V>(&self.table);
         let slot = self.seek(&state, 0);
@@ -104,7 +105,7 @@ impl<V: Kind> Machine<V> {
 
     // Goes on from a point by one number.
     pub fn turn(&self, at: &mut Point, number: u8) -> Turn
-        ensures { λ r. ⌜ with-point r (now (at .exit)) ≡ turned-by meaning (view (now (self .entry) .table)) (slot-total (view (now (self .entry) .table)) (now (self .entry) .rounds)) (now (at .entry)) number ⌝ }
+        ensures { λ r. ⌜ with-point r (now (at .exit)) ≡ turned-by meaning (program (now (self .entry))) (total (now (self .entry))) (now (at .entry)) number ⌝ }
     {
         if at.slot >= self.slots() {
             return Turn {

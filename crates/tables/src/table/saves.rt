@@ -1,15 +1,13 @@
 // Save.
-ghost use mathlib.Core.List.{List};
 ghost use mathlib.Core.Path.{_≡_};
 ghost use Prim.Native.Nat.{ℕ, _+_, _-_, _≤_, min};
 ghost use lib.ListN.{length};
 ghost use Rattle.std.specs.Of.Vec.{vec-items};
 ghost use Rattle.tables.specs.Encoded.{cell-bytes, own-bytes, own-thread-bytes, thread-bytes, header-row, encoded};
-ghost use Rattle.records.specs.Lines.{Bytes};
-ghost use Rattle.tables.specs.Program.{decoded};
 ghost use Rattle.tables.specs.Question.{question as asked};
 ghost use Rattle.tables.specs.Tables.{view};
 ghost use Rattle.tables.specs.Answer.{accepted};
+ghost use Rattle.tables.specs.WellFormed.{WellFormed};
 ghost use Rattle.records.specs.Wrote.{wrote, counted, filled};
 use crate::table::Table;
 use crate::text::ThreadText;
@@ -141,7 +139,7 @@ impl Table {
     pub fn save<V: Kind>(&self, out: &mut [u8]) -> Result<usize, Refusal>
         ensures answer { λ r. ⌜ r ≡ counted (now (out .entry)) (encoded (meaning .byte) (view (now (self .entry)))) ⌝ }
         ensures after { λ _. ⌜ now (out .exit) ≡ filled (now (out .entry)) (encoded (meaning .byte) (view (now (self .entry)))) ⌝ }
-        ensures again { λ _. ⌜ ((f : List ℕ) → Bytes f → asked meaning f ≡ accepted → view (now (self .entry)) ≡ decoded f → asked meaning (encoded (meaning .byte) (view (now (self .entry)))) ≡ accepted) ⌝ }
+        ensures again { λ _. ⌜ (WellFormed meaning (view (now (self .entry))) → asked meaning (encoded (meaning .byte) (view (now (self .entry)))) ≡ accepted) ⌝ }
     {
         let n = self.file_len();
         if out.len() < n {
