@@ -2,7 +2,5 @@ pub mod Numbers
 pub mod Verdict
 pub mod Bodies
 pub mod Lines
-pub mod Asks
-pub mod Past
 pub mod Rows
 pub mod Wrote

@@ -1,9 +1,6 @@
-// The records of a program file: what each says, and the questions that it is asked before it is believed.
-pub mod ask;
+// The records of a program file, and what each says.
 pub mod body;
-pub mod context;
 pub mod lookup;
-pub mod past;
 pub mod reader;
 pub mod refusal;
 pub mod row;

@@ -13,20 +13,20 @@ use Rattle.std.specs.Iters.{counting}
 use Rattle.std.specs.shelf.Lists.{kept-by, All}
 use Rattle.std.proofs.shelf.Tests.{and-parts, leb-true, eqb-true, cases-lt}
 use Rattle.std.proofs.shelf.Lists.{getD-take, getD-drop, getD-past, drop-drop, take-all}
-use Rattle.records.specs.declared.context.Context.{Context}
+use Rattle.questions.specs.declared.context.Context.{Context}
 use Rattle.records.specs.Verdict.{fine}
-use Rattle.tables.specs.Answer.{Answer, accepted, refused}
+use Rattle.questions.specs.Answer.{Answer, accepted, refused}
 use Rattle.records.specs.Bodies.{a, b, d}
 use Rattle.records.specs.Lines.{Bytes, line, lines, pg, sc, th, st, body}
-use Rattle.records.specs.Asks.{ask, ask-header}
-use Rattle.records.specs.Past.{past, start, begun}
-use Rattle.tables.specs.Question.{follow, sized, question}
+use Rattle.questions.specs.Asks.{ask, ask-header}
+use Rattle.questions.specs.Past.{past, start, begun}
+use Rattle.questions.specs.Question.{follow, sized, question}
 use Rattle.tables.specs.Program.{onto, bare, decoded, code, told, texts}
 use Rattle.records.specs.Rows.{row}
 use Rattle.tables.specs.Encoded.{rows, header-row, cell-rows, thread-rows, flat, encoded}
-use Rattle.tables.proofs.Verdicts.{from-asked}
-use Rattle.tables.proofs.Sounds.{past-sound}
-use Rattle.tables.proofs.Follows.{lines-more}
+use Rattle.questions.proofs.Verdicts.{from-asked}
+use Rattle.questions.proofs.Sounds.{past-sound}
+use Rattle.questions.proofs.Follows.{lines-more}
 use Rattle.tables.proofs.Ontos.{length-texts}
 use Rattle.tables.proofs.Rows.{Whole, header-back}
 use Rattle.tables.proofs.Backs.{main, Cells, cell-form, onward-parts, only-pg, leave}

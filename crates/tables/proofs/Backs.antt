@@ -11,22 +11,22 @@ use Rattle.std.specs.shelf.Lists.{kept-by, All}
 use Rattle.std.proofs.shelf.Tests.{cond-both, ltb-true, ltb-false}
 use Rattle.std.proofs.shelf.Ways.{tells}
 use Rattle.std.proofs.shelf.Lists.{getD-drop}
-use Rattle.records.specs.declared.context.Context.{Context}
-use Rattle.records.specs.declared.context.Due.{Due}
-use Rattle.records.specs.declared.context.Due.the-variants as due
+use Rattle.questions.specs.declared.context.Context.{Context}
+use Rattle.questions.specs.declared.context.Due.{Due}
+use Rattle.questions.specs.declared.context.Due.the-variants as due
 use Rattle.std.specs.declared.result.Result.the-variants.{Ok, Err}
 use Rattle.records.specs.Verdict.{Verdict, fine}
-use Rattle.tables.specs.Answer.{Answer, accepted}
+use Rattle.questions.specs.Answer.{Answer, accepted}
 use Rattle.records.specs.Bodies.{a}
 use Rattle.records.specs.Lines.{pg, sc, th, st, body}
-use Rattle.records.specs.Asks.{ask, asks, ask-cell, ask-thread, ask-statement}
-use Rattle.records.specs.Past.{past, passes, from-cell, from-thread, from-statement, bounded, Sound}
-use Rattle.tables.specs.Question.{follow, onward, ended}
+use Rattle.questions.specs.Asks.{ask, asks, ask-cell, ask-thread, ask-statement}
+use Rattle.questions.specs.Past.{past, passes, from-cell, from-thread, from-statement, bounded, Sound}
+use Rattle.questions.specs.Question.{follow, onward, ended}
 use Rattle.tables.specs.Program.{code, told, texts}
 use Rattle.records.specs.Rows.{statement-row}
 use Rattle.tables.specs.Encoded.{cell-row, cell-rows, thread-row, thread-rows}
-use Rattle.tables.proofs.Verdicts.{from-asked}
-use Rattle.tables.proofs.Sounds.{past-sound}
+use Rattle.questions.proofs.Verdicts.{from-asked}
+use Rattle.questions.proofs.Sounds.{past-sound}
 use Rattle.tables.proofs.Rows.{Whole, cell-back, text-back, statement-back}
 use Rattle.records.specs.declared.refusal.Refusal.the-variants as no
 

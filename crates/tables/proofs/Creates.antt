@@ -11,23 +11,23 @@ use Rattle.kinds.specs.Meaning.{Meaning}
 use Rattle.std.specs.shelf.Lists.{kept-by, All}
 use Rattle.std.proofs.shelf.Lists.{getD-set-same, getD-set-other}
 use Rattle.std.proofs.shelf.Tests.{and-parts, cases-eq, cond-both, cond-true, cond-false, eq-eqb, ne-eqb, ltb-true, not-true}
-use Rattle.records.specs.declared.context.Context.{Context}
-use Rattle.records.specs.declared.context.Due.{Due}
-use Rattle.records.specs.declared.context.Due.the-variants as due
+use Rattle.questions.specs.declared.context.Context.{Context}
+use Rattle.questions.specs.declared.context.Due.{Due}
+use Rattle.questions.specs.declared.context.Due.the-variants as due
 use Rattle.records.specs.declared.statement.Statement.{Statement}
 use Rattle.records.specs.declared.statement.Statement.the-variants.{Set, Copy, Sum, Difference, Less, Same, Jump, Branch, Assume, Assert, Init, Destroy, Lock, Unlock, Create, Join}
 use Rattle.records.specs.declared.statement.Thread.{Thread}
 use Rattle.records.specs.Verdict.{fine, asked}
-use Rattle.tables.specs.Answer.{accepted}
+use Rattle.questions.specs.Answer.{accepted}
 use Rattle.records.specs.Bodies.{op, b, d, unused, fields, within}
 use Rattle.records.specs.Lines.{sc, th, st, body}
-use Rattle.records.specs.Asks.{named, ask, asks, ask-cell, ask-thread, ask-statement, ask-known, ask-fields}
-use Rattle.records.specs.Past.{past, passes, names, begun, from-cell, from-thread, from-statement}
+use Rattle.questions.specs.Asks.{named, ask, asks, ask-cell, ask-thread, ask-statement, ask-known, ask-fields}
+use Rattle.questions.specs.Past.{past, passes, names, begun, from-cell, from-thread, from-statement}
 use Rattle.records.specs.Rows.{statement-row}
 use Rattle.tables.specs.WellFormed.{creating, creates}
-use Rattle.tables.specs.Question.{follow}
+use Rattle.questions.specs.Question.{follow}
 use Rattle.tables.specs.Program.{told}
-use Rattle.tables.proofs.Verdicts.{never, from-asked, from-then}
+use Rattle.questions.proofs.Verdicts.{never, from-asked, from-then}
 use Rattle.tables.proofs.Rows.{Whole, statement-back}
 use Rattle.tables.proofs.Backs.{onward-parts, only-sc, only-th, keep, leave, size-past}
 use Rattle.records.specs.declared.refusal.Refusal.the-variants as no

@@ -1,6 +1,3 @@
-pub mod Verdicts
-pub mod Sounds
-pub mod Follows
 pub mod Ontos
 pub mod Rows
 pub mod Backs

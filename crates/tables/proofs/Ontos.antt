@@ -11,8 +11,8 @@ use Rattle.tables.specs.declared.text.ThreadText.{ThreadText}
 use Rattle.records.specs.Bodies.{a}
 use Rattle.records.specs.Lines.{line, lines, body, sc, th, st, known}
 use Rattle.tables.specs.Program.{Program, code, told, text, texts, onto, with-record, behind, decoded}
-use Rattle.tables.proofs.Follows.{lines-more, lines-all}
-use Rattle.tables.proofs.Sounds.{no-mark}
+use Rattle.questions.proofs.Follows.{lines-more, lines-all}
+use Rattle.questions.proofs.Sounds.{no-mark}
 
 push : {X Y : Type 0} (g : X → Y) (x : X) (b : Bool) (ys : List Y) (rest : List X) → ys ++ map g (cond b (x ∷ rest) rest) ≡ cond b (ys ++ g x ∷ []) ys ++ map g rest
 push g x true ys rest = sym (append-assoc ys (g x ∷ []) (map g rest))

@@ -13,27 +13,27 @@ use Rattle.std.specs.shelf.Lists.{All}
 use Rattle.std.proofs.shelf.Lists.{take-at, drop-at, drop-drop, length-take-le, getD-replicate, getD-past}
 use Rattle.std.proofs.shelf.Elements.{all-append}
 use Rattle.std.proofs.shelf.Tests.{and-from, cases-bool, cases-lt, cond-true, cond-false, eq-eqb, lt-ltb, le-ltb, le-leb, not-from-false}
-use Rattle.records.specs.declared.context.Context.{Context}
-use Rattle.records.specs.declared.context.Due.{Due}
-use Rattle.records.specs.declared.context.Due.the-variants as due
+use Rattle.questions.specs.declared.context.Context.{Context}
+use Rattle.questions.specs.declared.context.Due.{Due}
+use Rattle.questions.specs.declared.context.Due.the-variants as due
 use Rattle.records.specs.declared.statement.Place.{Place}
 use Rattle.records.specs.declared.statement.Place.the-variants.{Shared, Local}
 use Rattle.records.specs.declared.statement.Statement.{Statement}
 use Rattle.records.specs.declared.statement.Statement.the-variants.{Set, Copy, Sum, Difference, Less, Same, Jump, Branch, Assume, Assert, Init, Destroy, Lock, Unlock, Create, Join}
 use Rattle.tables.specs.declared.text.ThreadText.{ThreadText}
 use Rattle.records.specs.Verdict.{Verdict, fine, asked}
-use Rattle.tables.specs.Answer.{Answer, accepted}
+use Rattle.questions.specs.Answer.{Answer, accepted}
 use Rattle.records.specs.Bodies.{within, place-at, label-at}
 use Rattle.records.specs.Lines.{line, lines, body}
-use Rattle.records.specs.Asks.{exists, target, named, ask, asks, ask-fields}
-use Rattle.records.specs.Past.{start, begun, due-next, past-thread, past-statement, names, from-cell, from-thread, from-statement}
+use Rattle.questions.specs.Asks.{exists, target, named, ask, asks, ask-fields}
+use Rattle.questions.specs.Past.{start, begun, due-next, past-thread, past-statement, names, from-cell, from-thread, from-statement}
 use Rattle.records.specs.Rows.{place-byte, statement-row}
 use Rattle.tables.specs.Encoded.{rows, header-row, cell-row, cell-rows, thread-row, thread-rows, flat, encoded}
 use Rattle.tables.specs.WellFormed.{There, Fit, Numbered, Threads, WellFormed, creating, creates}
-use Rattle.tables.specs.Question.{follow, onward, question}
+use Rattle.questions.specs.Question.{follow, onward, question}
 use Rattle.tables.specs.Program.{Program, told}
-use Rattle.tables.proofs.Verdicts.{to-asked}
-use Rattle.tables.proofs.Follows.{question-sized}
+use Rattle.questions.proofs.Verdicts.{to-asked}
+use Rattle.questions.proofs.Follows.{question-sized}
 use Rattle.tables.proofs.Saves.{Ten, length-flat, ten-statements, ten-cells, count-cells}
 use Rattle.tables.proofs.Creates.{by-create, mark, New, adds, created-is, length-names}
 use Rattle.tables.proofs.Wells.{wide, wide-back, counts-of}

@@ -9,18 +9,18 @@ use lib.ListN.{length, getD}
 use Rattle.kinds.specs.Meaning.{Meaning}
 use Rattle.std.proofs.shelf.Tests.{and-parts, cond-both, eqb-true, leb-true, ltb-true, ltb-false}
 use Rattle.records.specs.declared.body.Used.{Used}
-use Rattle.records.specs.declared.context.Context.{Context}
+use Rattle.questions.specs.declared.context.Context.{Context}
 use Rattle.records.specs.declared.statement.Place.the-variants.{Shared, Local}
 use Rattle.records.specs.declared.statement.Statement.{Statement}
 use Rattle.records.specs.declared.statement.Statement.the-variants.{Set, Copy, Sum, Difference, Less, Same, Jump, Branch, Assume, Assert, Init, Destroy, Lock, Unlock, Create, Join}
 use Rattle.records.specs.Verdict.{fine, asked, then}
 use Rattle.records.specs.Bodies.{op, d, a, b, c, unused, uses, within, fields, place-at, statement}
 use Rattle.records.specs.Lines.{pg, sc, th, st, body}
-use Rattle.records.specs.Asks.{exists, target, ask-header, ask-cell, ask-thread, ask-fields, ask-known, ask-statement}
+use Rattle.questions.specs.Asks.{exists, target, ask-header, ask-cell, ask-thread, ask-fields, ask-known, ask-statement}
 use Rattle.tables.specs.Program.{code, told, text}
 use Rattle.records.specs.Rows.{four, row, place-byte, statement-row}
 use Rattle.tables.specs.Encoded.{cell-row, thread-row}
-use Rattle.tables.proofs.Verdicts.{from-asked, from-then}
+use Rattle.questions.proofs.Verdicts.{from-asked, from-then}
 use Rattle.records.specs.declared.refusal.Refusal.the-variants as no
 
 -- a record of a file: ten bytes

@@ -12,25 +12,25 @@ use Rattle.std.specs.shelf.Lists.{kept-by, All}
 use Rattle.std.proofs.shelf.Lists.{getD-drop}
 use Rattle.std.proofs.shelf.Elements.{all-map, all-kept-by, all-weaker}
 use Rattle.std.proofs.shelf.Tests.{and-parts, cond-both, leb-true, ltb-true, ltb-false}
-use Rattle.records.specs.declared.context.Context.{Context}
-use Rattle.records.specs.declared.context.Due.{Due}
-use Rattle.records.specs.declared.context.Due.the-variants as due
+use Rattle.questions.specs.declared.context.Context.{Context}
+use Rattle.questions.specs.declared.context.Due.{Due}
+use Rattle.questions.specs.declared.context.Due.the-variants as due
 use Rattle.records.specs.declared.statement.Place.{Place}
 use Rattle.records.specs.declared.statement.Place.the-variants.{Shared, Local}
 use Rattle.records.specs.declared.statement.Statement as s
 use Rattle.records.specs.declared.statement.Statement.the-variants.{Set, Copy, Sum, Difference, Less, Same, Jump, Branch, Assume, Assert, Init, Destroy, Lock, Unlock, Create, Join}
 use Rattle.records.specs.Verdict.{fine, asked, then}
-use Rattle.tables.specs.Answer.{accepted}
+use Rattle.questions.specs.Answer.{accepted}
 use Rattle.records.specs.Bodies.{op, a, b, c, d, unused, uses, within, fields}
 use Rattle.records.specs.Lines.{Bytes, line, lines, pg, sc, th, st, body}
-use Rattle.records.specs.Asks.{exists, target, named, ask, asks, ask-header, ask-cell, ask-thread, ask-statement, ask-known, ask-fields}
-use Rattle.records.specs.Past.{past, passes, start, begun, from-cell, from-thread, from-statement, bounded, Sound}
+use Rattle.questions.specs.Asks.{exists, target, named, ask, asks, ask-header, ask-cell, ask-thread, ask-statement, ask-known, ask-fields}
+use Rattle.questions.specs.Past.{past, passes, start, begun, from-cell, from-thread, from-statement, bounded, Sound}
 use Rattle.records.specs.Rows.{four, statement-row}
 use Rattle.tables.specs.WellFormed.{Counts, counts, There, Fit, Numbered, Threads, WellFormed, creates}
-use Rattle.tables.specs.Question.{follow, ended, question}
+use Rattle.questions.specs.Question.{follow, ended, question}
 use Rattle.tables.specs.Program.{code, told, texts, onto, bare, decoded}
-use Rattle.tables.proofs.Verdicts.{from-asked, from-then}
-use Rattle.tables.proofs.Sounds.{past-sound}
+use Rattle.questions.proofs.Verdicts.{from-asked, from-then}
+use Rattle.questions.proofs.Sounds.{past-sound}
 use Rattle.tables.proofs.Rows.{Low, Whole, text-back, statement-back, header-back}
 use Rattle.tables.proofs.Backs.{onward-parts, only-pg, only-sc, only-th, only-st, keep, leave, size-past}
 use Rattle.tables.proofs.Accepted.{parts, counted-cells, counted-texts, first-line, whole-lines}

@@ -1,5 +1,3 @@
-pub mod Answer
-pub mod Question
 pub mod Program
 pub mod Tables
 pub mod Encoded

@@ -3,7 +3,7 @@ use Rattle.std.specs.Of.Vec.{vec-items}
 use Rattle.tables.specs.declared.table.Table.{Table}
 use Rattle.tables.specs.Program.{Program}
 use Rattle.std.specs.declared.result.Result.the-variants.{Ok, Err}
-use Rattle.tables.specs.Answer.{Answer}
+use Rattle.questions.specs.Answer.{Answer}
 
 abbrev pub view : Table → Program
 view t = record { mutexes = t .mutexes; cells = vec-items (t .cells); texts = vec-items (t .texts); statements = vec-items (t .statements) }

@@ -1,4 +1,3 @@
 // The table of a program, and the file that it is loaded from and saved to.
-pub mod question;
 pub mod table;
 pub mod text;

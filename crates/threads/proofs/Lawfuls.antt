@@ -24,17 +24,17 @@ use Rattle.threads.specs.declared.effect.Effect.{Effect}
 use Rattle.threads.specs.declared.effect.Effect.the-variants.{Fail, Block, Pass, GoTo, Write, Mark, Create}
 use Rattle.threads.specs.declared.slot.SlotEnd.{SlotEnd}
 use Rattle.threads.specs.declared.slot.SlotEnd.the-variants as end
-use Rattle.threads.specs.declared.state.MutexState.{MutexState}
-use Rattle.threads.specs.declared.state.MutexState.the-variants.{Free, Destroyed, Held}
-use Rattle.threads.specs.declared.state.State.{State}
+use Rattle.states.specs.declared.state.MutexState.{MutexState}
+use Rattle.states.specs.declared.state.MutexState.the-variants.{Free, Destroyed, Held}
+use Rattle.states.specs.declared.state.State.{State}
 use Rattle.threads.specs.declared.step.Progress.{Progress}
 use Rattle.threads.specs.declared.step.Progress.the-variants.{CarriedOut, Failed, Blocked}
 use Rattle.threads.specs.Codes.{Lawful-codes, Lawful-entry, Lawful-state}
 use Rattle.threads.specs.Effects.{ended, taken, freed, effect, effect-of, next}
-use Rattle.threads.specs.Entries.{no-entry, asleep, awake, labelled, with-local}
+use Rattle.states.specs.Entries.{no-entry, asleep, awake, labelled, with-local}
 use Rattle.threads.specs.Plays.{Played, closed, served, serve, rounds, bound, thread, play, program-slots, slot-total, cells-of}
 use Rattle.threads.specs.Slots.{Ran, ran, run, counted, slot-of}
-use Rattle.threads.specs.States.{entry, label, created, value, put, go, mark, create, change, padded, beginning, mutex}
+use Rattle.states.specs.States.{entry, label, created, value, put, go, mark, create, change, padded, beginning, mutex}
 use Rattle.threads.specs.Steps.{progress, after}
 
 -- the code that stands in a statement

@@ -14,7 +14,7 @@ use Rattle.tables.specs.Program.{Program}
 use Rattle.threads.specs.declared.point.Point.{Point}
 use Rattle.threads.specs.Plays.{play, slot-total}
 use Rattle.threads.specs.Reports.{answered, front}
-use Rattle.threads.specs.States.{beginning}
+use Rattle.states.specs.States.{beginning}
 use Rattle.threads.specs.Turns.{first, rest, Stands}
 use Rattle.threads.proofs.Turning.{rest-landed, landed-stands}
 

@@ -6,7 +6,7 @@ use Rattle.kinds.specs.Meaning.{Meaning}
 use Rattle.records.specs.declared.statement.Thread.{Thread}
 use Rattle.tables.specs.Program.{Program}
 use Rattle.threads.specs.declared.slot.SlotEnd.the-variants as end
-use Rattle.threads.specs.declared.state.State.{State}
+use Rattle.states.specs.declared.state.State.{State}
 use Rattle.threads.specs.declared.step.Progress.{Progress}
 use Rattle.threads.specs.Effects.{next}
 use Rattle.threads.specs.Steps.{progress, after}

@@ -4,8 +4,8 @@ use mathlib.Core.Bool.{true, false, cond}
 use Prim.Native.Nat.{ℕ, suc, _+_, _-_, _%_, _<_, _≤_}
 use native.Mathlib.Omega.{arith}
 use Rattle.tables.specs.Program.{Program}
-use Rattle.threads.specs.declared.state.State.{State}
-use Rattle.threads.specs.States.{created}
+use Rattle.states.specs.declared.state.State.{State}
+use Rattle.states.specs.States.{created}
 use Rattle.threads.specs.Turns.{width, seek}
 
 module _ (p : Program) (s : State) (n q : ℕ) where

@@ -18,10 +18,10 @@ use Rattle.walks.specs.declared.outcome.Outcome.the-variants.{Open, Ended}
 use Rattle.threads.specs.declared.point.Point.{Point}
 use Rattle.threads.specs.declared.slot.SlotEnd.{SlotEnd}
 use Rattle.threads.specs.declared.slot.SlotEnd.the-variants as end
-use Rattle.threads.specs.declared.state.State.{State}
+use Rattle.states.specs.declared.state.State.{State}
 use Rattle.threads.specs.Plays.{Played, played, prefixed, bound, serve, closed, served, rounds, slots, program-slots}
 use Rattle.threads.specs.Slots.{Ran}
-use Rattle.threads.specs.States.{created}
+use Rattle.states.specs.States.{created}
 use Rattle.threads.specs.Turns.{width, seek, point, landed, standing, Turned, turned-so, turn, Stands, rest}
 use Rattle.threads.proofs.Seeks.{seek-found, seek-past, seek-none}
 

@@ -5,8 +5,8 @@ use mathlib.Core.List.{List}
 use Prim.Native.Nat.{ℕ}
 use Rattle.std.specs.shelf.Lists.{All}
 use Rattle.kinds.specs.Meaning.{Meaning}
-use Rattle.threads.specs.declared.entry.ThreadEntry.{ThreadEntry}
-use Rattle.threads.specs.declared.state.State.{State}
+use Rattle.states.specs.declared.entries.ThreadEntry.{ThreadEntry}
+use Rattle.states.specs.declared.state.State.{State}
 
 abbrev pub Lawful-codes : Meaning → List ℕ → Type 0
 Lawful-codes k cs = All (λ c. k .lawful c ≡ true) cs

@@ -12,10 +12,10 @@ use Rattle.records.specs.declared.statement.Thread.{Thread}
 use Rattle.tables.specs.Program.{Program, size, due}
 use Rattle.threads.specs.declared.effect.Effect.{Effect}
 use Rattle.threads.specs.declared.effect.Effect.the-variants.{Fail, Block, Pass, GoTo, Write, Mark, Create}
-use Rattle.threads.specs.declared.state.MutexState.{MutexState}
-use Rattle.threads.specs.declared.state.MutexState.the-variants.{Free, Destroyed, Held}
-use Rattle.threads.specs.declared.state.State.{State}
-use Rattle.threads.specs.States.{label, value, mutex}
+use Rattle.states.specs.declared.state.MutexState.{MutexState}
+use Rattle.states.specs.declared.state.MutexState.the-variants.{Free, Destroyed, Held}
+use Rattle.states.specs.declared.state.State.{State}
+use Rattle.states.specs.States.{label, value, mutex}
 
 -- a thread has ended: its label is the number of its statements
 abbrev pub ended : Program → State → ℕ → Bool

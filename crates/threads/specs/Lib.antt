@@ -1,5 +1,3 @@
-pub mod Entries
-pub mod States
 pub mod Effects
 pub mod Steps
 pub mod Slots

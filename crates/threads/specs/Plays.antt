@@ -13,9 +13,9 @@ use Rattle.walks.specs.declared.outcome.Outcome.{Outcome}
 use Rattle.walks.specs.declared.outcome.Outcome.the-variants.{Open, Ended}
 use Rattle.threads.specs.declared.slot.SlotEnd.{SlotEnd}
 use Rattle.threads.specs.declared.slot.SlotEnd.the-variants as end
-use Rattle.threads.specs.declared.state.State.{State}
+use Rattle.states.specs.declared.state.State.{State}
 use Rattle.threads.specs.Slots.{Ran, ran, run, slot-of}
-use Rattle.threads.specs.States.{label, created, beginning}
+use Rattle.states.specs.States.{label, created, beginning}
 
 -- What a list of numbers comes to: its outcome, a slot count for each number that was read, and the state that is left.
 pub record Played : Type 0 where

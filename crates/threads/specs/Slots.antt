@@ -6,7 +6,7 @@ use Rattle.tables.specs.Program.{Program}
 use Rattle.threads.specs.declared.slot.Slot.{Slot}
 use Rattle.threads.specs.declared.slot.SlotEnd.{SlotEnd}
 use Rattle.threads.specs.declared.slot.SlotEnd.the-variants as end
-use Rattle.threads.specs.declared.state.State.{State}
+use Rattle.states.specs.declared.state.State.{State}
 use Rattle.threads.specs.declared.step.Progress.{Progress}
 use Rattle.threads.specs.declared.step.Progress.the-variants.{CarriedOut, Failed, Blocked}
 use Rattle.threads.specs.Effects.{next}

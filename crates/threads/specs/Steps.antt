@@ -4,10 +4,10 @@ use Rattle.records.specs.declared.statement.Label.{Label}
 use Rattle.records.specs.declared.statement.Thread.{Thread}
 use Rattle.threads.specs.declared.effect.Effect.{Effect}
 use Rattle.threads.specs.declared.effect.Effect.the-variants.{Fail, Block, Pass, GoTo, Write, Mark, Create}
-use Rattle.threads.specs.declared.state.State.{State}
+use Rattle.states.specs.declared.state.State.{State}
 use Rattle.threads.specs.declared.step.Progress.{Progress}
 use Rattle.threads.specs.declared.step.Progress.the-variants.{CarriedOut, Failed, Blocked}
-use Rattle.threads.specs.States.{label, go, put, mark, create}
+use Rattle.states.specs.States.{label, go, put, mark, create}
 
 abbrev pub progress : Effect → Progress
 progress Fail = Failed

@@ -13,11 +13,11 @@ use Rattle.walks.specs.declared.outcome.Outcome.the-variants.{Open, Ended}
 use Rattle.threads.specs.declared.point.Point.{Point}
 use Rattle.threads.specs.declared.slot.SlotEnd.{SlotEnd}
 use Rattle.threads.specs.declared.slot.SlotEnd.the-variants as end
-use Rattle.threads.specs.declared.state.State.{State}
+use Rattle.states.specs.declared.state.State.{State}
 use Rattle.threads.specs.declared.turn.Turn.{Turn}
 use Rattle.threads.specs.Plays.{Played, bound, serve, rounds, program-slots}
 use Rattle.threads.specs.Slots.{Ran}
-use Rattle.threads.specs.States.{created, beginning}
+use Rattle.states.specs.States.{created, beginning}
 
 -- how many threads have slots
 abbrev pub width : Program → ℕ

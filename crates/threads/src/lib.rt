@@ -1,11 +1,8 @@
 // The thread machine: threads that take turns over shared cells and mutexes.
 pub mod effect;
-pub mod entries;
-pub mod entry;
 pub mod machine;
 pub mod play;
 pub mod point;
 pub mod slot;
-pub mod state;
 pub mod step;
 pub mod turn;

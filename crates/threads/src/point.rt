@@ -1,5 +1,5 @@
 // A point between two slots, from which a run can go on.
-use crate::state::State;
+use states::state::State;
 
 // How many slots have gone by, existing or not, and the state behind them.
 #[derive(Clone, Copy)]

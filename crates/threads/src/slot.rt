@@ -3,10 +3,11 @@ ghost use mathlib.Core.Path.{_≡_};
 ghost use Prim.Native.Nat.{_<_};
 ghost use Rattle.tables.specs.Tables.{view};
 ghost use Rattle.threads.specs.Slots.{run, ran};
-use crate::state::State;
 use crate::step::Progress;
+use crate::step::step;
 use kinds::Kind;
 use records::statement::Thread;
+use states::state::State;
 use tables::table::Table;
 
 // How many statements a thread carries out in a slot. Never a place in its text: that is a `Label`.
@@ -27,28 +28,26 @@ pub struct Slot {
     pub count: SlotCount,
 }
 
-impl State {
-    // Thread `i` carries out `n` statements, if it can.
-    pub fn run_slot<V: Kind>(&mut self, table: &Table, i: Thread, n: SlotCount) -> Slot
-        requires { ⌜ i .0 < 8 ⌝ }
-        ensures { λ r. ⌜ ran r (now (self .exit)) ≡ run meaning (view (now (table .entry))) i (n .0) 0 (now (self .entry)) ⌝ }
-    {
-        for d in 0..n.0 {
-            match self.step::<V>(table, i) {
-                Progress::CarriedOut => {}
-                Progress::Failed => return Slot {
-                    end: SlotEnd::Failed,
-                    count: SlotCount(d + 1),
-                },
-                Progress::Blocked => return Slot {
-                    end: SlotEnd::Cut,
-                    count: SlotCount(d),
-                },
-            }
+// Thread `i` carries out `n` statements, if it can.
+pub fn run_slot<V: Kind>(state: &mut State, table: &Table, i: Thread, n: SlotCount) -> Slot
+    requires { ⌜ i .0 < 8 ⌝ }
+    ensures { λ r. ⌜ ran r (now (state .exit)) ≡ run meaning (view (now (table .entry))) i (n .0) 0 (now (state .entry)) ⌝ }
+{
+    for d in 0..n.0 {
+        match step::<V>(state, table, i) {
+            Progress::CarriedOut => {}
+            Progress::Failed => return Slot {
+                end: SlotEnd::Failed,
+                count: SlotCount(d + 1),
+            },
+            Progress::Blocked => return Slot {
+                end: SlotEnd::Cut,
+                count: SlotCount(d),
+            },
         }
-        Slot {
-            end: SlotEnd::Done,
-            count: n,
-        }
+    }
+    Slot {
+        end: SlotEnd::Done,
+        count: n,
     }
 }

@@ -11,9 +11,10 @@ use crate::point::Point;
 use crate::slot::Slot;
 use crate::slot::SlotCount;
 use crate::slot::SlotEnd;
-use crate::state::State;
+use crate::slot::run_slot;
 use kinds::Kind;
 use records::statement::Thread;
+use states::state::State;
 use tables::table::Table;
 use walks::outcome::Ending;
 use walks::outcome::Outcome;
@@ -25,28 +26,26 @@ pub struct Turn {
     pub outcome: Outcome,
 }
 
-impl State {
-    // The most statements that thread `i` can carry out.
-    fn bound(&self, table: &Table, i: Thread) -> u8
-        requires { ⌜ i .0 < 8 ⌝ }
-        ensures { λ r. ⌜ r ≡ most (view (now (table .entry))) (now (self .entry)) (i .0) ⌝ }
-    {
-        table.size(i).saturating_sub(self.threads.label(i).0)
-    }
+// The most statements that thread `i` can carry out.
+fn bound(state: &State, table: &Table, i: Thread) -> u8
+    requires { ⌜ i .0 < 8 ⌝ }
+    ensures { λ r. ⌜ r ≡ most (view (now (table .entry))) (now (state .entry)) (i .0) ⌝ }
+{
+    table.size(i).saturating_sub(state.threads.label(i).0)
+}
 
-    // Thread `i`'s slot with the number `n`.
-    fn serve<V: Kind>(&mut self, table: &Table, i: Thread, n: SlotCount) -> Slot
-        requires { ⌜ i .0 < 8 ⌝ }
-        ensures { λ r. ⌜ ran r (now (self .exit)) ≡ served-so meaning (view (now (table .entry))) (i .0) (now (self .entry)) (n .0) ⌝ }
-    {
-        if n.0 > self.bound(table, i) {
-            return Slot {
-                end: SlotEnd::Cut,
-                count: SlotCount(0),
-            };
-        }
-        self.run_slot::<V>(table, i, n)
+// Thread `i`'s slot with the number `n`.
+fn serve<V: Kind>(state: &mut State, table: &Table, i: Thread, n: SlotCount) -> Slot
+    requires { ⌜ i .0 < 8 ⌝ }
+    ensures { λ r. ⌜ ran r (now (state .exit)) ≡ served-so meaning (view (now (table .entry))) (i .0) (now (state .entry)) (n .0) ⌝ }
+{
+    if n.0 > bound(state, table, i) {
+        return Slot {
+            end: SlotEnd::Cut,
+            count: SlotCount(0),
+        };
     }
+    run_slot::<V>(state, table, i, n)
 }
 
 impl<V: Kind> Machine<V> {
@@ -88,7 +87,7 @@ impl<V: Kind> Machine<V> {
         ensures { λ r. ⌜ r ≡ stands-as (program (now (self .entry))) (total (now (self .entry))) (now (at .entry)) ⌝ }
     {
         if at.slot < self.slots() {
-            Outcome::Open(at.state.bound(&self.table, self.thread_at(at.slot)))
+            Outcome::Open(bound(&at.state, &self.table, self.thread_at(at.slot)))
         } else {
             Outcome::Ended(Ending::Full)
         }
@@ -114,7 +113,7 @@ impl<V: Kind> Machine<V> {
             };
         }
         let i = self.thread_at(at.slot);
-        let slot = at.state.serve::<V>(&self.table, i, SlotCount(number));
+        let slot = serve::<V>(&mut at.state, &self.table, i, SlotCount(number));
         let count = slot.count;
         match slot.end {
             SlotEnd::Failed => Turn {

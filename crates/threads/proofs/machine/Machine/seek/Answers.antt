@@ -3,7 +3,7 @@ use Prim.Native.Nat.{_<_, _≤_}
 use native.Mathlib.Omega.{arith}
 use Rattle.tables.specs.Tables.{view}
 use Rattle.threads.specs.Plays.{slot-total}
-use Rattle.threads.specs.States.{created}
+use Rattle.states.specs.States.{created}
 use Rattle.threads.proofs.Seeks.{seek-found, seek-past, seek-none}
 use Rattle.threads.proofs.machine.Machine.seek.Needs as need
 

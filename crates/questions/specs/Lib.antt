@@ -1,0 +1,4 @@
+pub mod Asks
+pub mod Past
+pub mod Answer
+pub mod Question

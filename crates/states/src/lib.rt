@@ -1,0 +1,3 @@
+// The state of a run: shared cells, mutexes, and the table of thread entries.
+pub mod entries;
+pub mod state;
