@@ -51,7 +51,7 @@ impl ThreadTable {
         requires { ⌜ i .0 < 8 ⌝ }
         ensures { λ r. ⌜ r ≡ entry-of (now (self .entry) .entries) (i .0) .label ⌝ }
     {
-        self.entries[i.0 as usize].label
+        self.entries[usize::from(i.0)].label
     }
 
     pub fn created(&self, i: Thread) -> bool

@@ -22,18 +22,17 @@ use Rattle.tables.specs.Program.{Program, text-of, own, due}
 use Rattle.tables.specs.WellFormed.{Counts, Fit, Numbered, Threads, WellFormed}
 use Rattle.threads.specs.declared.effect.Effect.{Effect}
 use Rattle.threads.specs.declared.effect.Effect.the-variants.{Fail, Block, Pass, GoTo, Write, Mark, Create}
+use Rattle.threads.specs.declared.slot.Slot.{Slot}
 use Rattle.threads.specs.declared.slot.SlotEnd.{SlotEnd}
 use Rattle.threads.specs.declared.slot.SlotEnd.the-variants as end
 use Rattle.states.specs.declared.state.MutexState.{MutexState}
 use Rattle.states.specs.declared.state.MutexState.the-variants.{Free, Destroyed, Held}
 use Rattle.states.specs.declared.state.State.{State}
-use Rattle.threads.specs.declared.step.Progress.{Progress}
-use Rattle.threads.specs.declared.step.Progress.the-variants.{CarriedOut, Failed, Blocked}
 use Rattle.threads.specs.Codes.{Lawful-codes, Lawful-entry, Lawful-state}
 use Rattle.threads.specs.Effects.{ended, taken, freed, effect, effect-of, next}
 use Rattle.states.specs.Entries.{no-entry, asleep, awake, labelled, with-local}
 use Rattle.threads.specs.Plays.{Played, closed, served, serve, rounds, bound, thread, play, program-slots, slot-total, cells-of}
-use Rattle.threads.specs.Slots.{Ran, ran, run, counted, slot-of}
+use Rattle.threads.specs.Slots.{Ran, ran, run, stops, unless-stopped, slot-of}
 use Rattle.states.specs.States.{entry, label, created, value, put, go, mark, create, change, padded, beginning, mutex}
 use Rattle.threads.specs.Steps.{progress, after}
 
@@ -186,17 +185,16 @@ module _ (k : Meaning) (laws : Lawful k) where
         (lawful-effect-of p i s (due p (i .0) (label s (i .0))) h (all-nth (Lawful-statement k) (own p (i .0)) (label s (i .0)) (all-take (Lawful-statement k) (text-of p (i .0) .size) (drop (text-of p (i .0) .first) (p .statements)) (all-drop (Lawful-statement k) (text-of p (i .0) .first) (p .statements) texts))))
         h
 
-    lawful-counted : (d : ℕ) (s : State) (more : Ran) (o : Progress) → Lawful-state k s → Lawful-state k (more .state) → Lawful-state k (counted d s more o .state)
-    lawful-counted d s more CarriedOut g h = h
-    lawful-counted d s more Failed g h = g
-    lawful-counted d s more Blocked g h = g
+    lawful-stopped : (s : State) (more : Ran) (x : Option Slot) → Lawful-state k s → Lawful-state k (more .state) → Lawful-state k (unless-stopped s more x .state)
+    lawful-stopped s more None g h = h
+    lawful-stopped s more (Some x) g h = g
 
     lawful-run : (i : Thread) (n d : ℕ) (s : State) → Lawful-state k s → Lawful-state k (run k p i n d s .state)
     unfolding run
     lawful-run i zero d s h = h
     lawful-run i (suc n) d s h =
         let h′ = lawful-next i s h in
-        lawful-counted d (after i (next k p i s) s) (run k p i n (d + 1) (after i (next k p i s) s)) (progress (next k p i s)) h′ (lawful-run i n (d + 1) (after i (next k p i s) s) h′)
+        lawful-stopped (after i (next k p i s) s) (run k p i n (d + 1) (after i (next k p i s) s)) (stops (progress (next k p i s)) d) h′ (lawful-run i n (d + 1) (after i (next k p i s) s) h′)
 
     lawful-serve : (i : ℕ) (s : State) (n : ℕ) → Lawful-state k s → Lawful-state k (serve k p i s n .state)
     lawful-serve i s n h =

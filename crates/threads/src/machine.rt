@@ -10,7 +10,7 @@ mod makes;
 #[derive(Drop)]
 pub struct Machine<V: Kind> {
     pub table: Table,
-    rounds: u8,
+    pub rounds: u8,
     kind: PhantomData<V>,
     ghost few: { rounds ≤ 8 },
 }

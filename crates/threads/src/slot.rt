@@ -2,7 +2,7 @@
 ghost use mathlib.Core.Path.{_≡_};
 ghost use Prim.Native.Nat.{_<_};
 ghost use Rattle.tables.specs.Tables.{view};
-ghost use Rattle.threads.specs.Slots.{run, ran};
+ghost use Rattle.threads.specs.Slots.{run, ran, stops};
 use crate::step::Progress;
 use crate::step::step;
 use kinds::Kind;
@@ -28,22 +28,32 @@ pub struct Slot {
     pub count: SlotCount,
 }
 
+// The slot that a statement ends which came out so, after `d` others, if it ends it.
+fn stopped(progress: Progress, d: u8) -> Option<Slot>
+    requires { ⌜ d < 255 ⌝ }
+    ensures { λ r. ⌜ r ≡ stops progress d ⌝ }
+{
+    match progress {
+        Progress::CarriedOut => None,
+        Progress::Failed => Some(Slot {
+            end: SlotEnd::Failed,
+            count: SlotCount(d + 1),
+        }),
+        Progress::Blocked => Some(Slot {
+            end: SlotEnd::Cut,
+            count: SlotCount(d),
+        }),
+    }
+}
+
 // Thread `i` carries out `n` statements, if it can.
 pub fn run_slot<V: Kind>(state: &mut State, table: &Table, i: Thread, n: SlotCount) -> Slot
     requires { ⌜ i .0 < 8 ⌝ }
     ensures { λ r. ⌜ ran r (now (state .exit)) ≡ run meaning (view (now (table .entry))) i (n .0) 0 (now (state .entry)) ⌝ }
 {
     for d in 0..n.0 {
-        match step::<V>(state, table, i) {
-            Progress::CarriedOut => {}
-            Progress::Failed => return Slot {
-                end: SlotEnd::Failed,
-                count: SlotCount(d + 1),
-            },
-            Progress::Blocked => return Slot {
-                end: SlotEnd::Cut,
-                count: SlotCount(d),
-            },
+        if let Some(slot) = stopped(step::<V>(state, table, i), d) {
+            return slot;
         }
     }
     Slot {

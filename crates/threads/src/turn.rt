@@ -54,7 +54,7 @@ impl<V: Kind> Machine<V> {
         ensures value { λ r. ⌜ r ≡ total (now (self .entry)) ⌝ }
         ensures few { λ r. ⌜ r ≤ 64 ⌝ }
     {
-        self.rounds() * self.table.threads()
+        self.rounds * self.table.threads()
     }
 
     // The thread that has slot `q`.

@@ -30,10 +30,4 @@ impl<V: Kind> Machine<V> {
         self.rounds = rounds as u8;
         Ok(())
     }
-
-    pub fn rounds(&self) -> u8
-        ensures { λ r. ⌜ r ≡ now (self .entry) .rounds ⌝ }
-    {
-        self.rounds
-    }
 }
