@@ -103,8 +103,12 @@ impl Table {
         ensures well { λ _. ⌜ (asked meaning (now (file .entry)) ≡ accepted → WellFormed meaning (view (now (self .exit)))) ⌝ }
         ensures back { λ _. ⌜ (asked meaning (now (file .entry)) ≡ accepted → encoded (meaning .byte) (view (now (self .exit))) ≡ now (file .entry)) ⌝ }
     {
-        question::<V>(file)?;
-        self.fill(file);
-        Ok(())
+        match question::<V>(file) {
+            Err(e) => Err(e),
+            Ok(()) => {
+                self.fill(file);
+                Ok(())
+            }
+        }
     }
 }

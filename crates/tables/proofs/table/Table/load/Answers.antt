@@ -12,16 +12,16 @@ pub fill-requires : need.fill-requires
 fill-requires g c κs =
     let k = g .V·Kind .meaning in
     let f = c .args .file .now in
-    let e = sym (c .in-Continue-question .ensures tt) in
+    let e = sym (c .in-Ok .ensures tt) in
     let p = parts k f e in
     let q = held k f (λ j. omega (arith, c .typed .file j)) e in
     record { some = omega arith; few = p .most; wide = q .wide; deep = q .deep }
 
-pub returns : need.returns
-returns g c =
+pub returns-in-Ok : need.returns-in-Ok
+returns-in-Ok g c =
     let k = g .V·Kind .meaning in
     let f = c .args .file .now in
-    let e = c .in-Continue-question .ensures tt in
+    let e = c .in-Ok .ensures tt in
     record {
       answer = e;
       after = c .fill .ensures ∙ ap (λ v. loaded v (decoded f) (view (c .args .self .now))) e;

@@ -1,0 +1,38 @@
+-- What look finds out before it prints anything.
+use mathlib.Core.Path.{_≡_}
+use mathlib.Core.List.{List}
+use Prim.Native.Nat.{ℕ, _≤_}
+use lib.ListN.{replicate}
+use Rattle.std.specs.declared.result.Result.{Result}
+use Rattle.std.specs.declared.result.Result.the-variants.{Ok, Err}
+use Rattle.kinds.specs.Meaning.{Meaning}
+use Rattle.questions.specs.Answer.{accepted}
+use Rattle.questions.specs.Question.{question}
+use Rattle.records.specs.declared.refusal.Refusal.{Refusal}
+use Rattle.tables.specs.Program.{Program, decoded}
+use Rattle.threads.specs.Machines.{rounds-asked}
+use Rattle.threads.specs.Plays.{Played, play, cells-of}
+use Rattle.threads.specs.Reports.{reported, front, refusal, answered}
+use Rattle.threads.specs.declared.machine.Machine.{Machine}
+use Rattle.threads.specs.Machines.{program}
+use Rattle.look.specs.declared.sight.Problem.{Problem}
+use Rattle.look.specs.declared.sight.Problem.the-variants.{Memory, File, Call}
+use Rattle.look.specs.declared.sight.Run.{Run}
+
+-- a machine on the program of a file, with so many rounds, or the first no of Load and then of the rounds
+abbrev pub Made : {V : Type 0} → Meaning → List ℕ → ℕ → Result (Machine V) Problem → Type 0
+Made k f rounds (Ok m) = (question k f ≡ accepted) × (rounds-asked rounds ≡ Ok tt) × (program m ≡ decoded f) × (m .rounds ≡ rounds)
+Made k f rounds (Err Memory) = Unit {0}
+Made k f rounds (Err (File e)) = question k f ≡ Err e
+Made k f rounds (Err (Call e)) = (question k f ≡ accepted) × (rounds-asked rounds ≡ Err e)
+
+-- the answer of Play, with the buffers that look lends it
+abbrev pub ran : Program → Played → Run
+ran p r = record { report = reported r; counts = front (r .counts) (replicate 64 0); cells = front (cells-of p (r .state)) (replicate 16 0) }
+
+abbrev pub run-answer : Meaning → Program → ℕ → List ℕ → Result Run Refusal
+run-answer k p rounds ns = answered (refusal ns (replicate 64 0) (replicate 16 0) (p .cells)) (ran p (play k p rounds ns))
+
+-- a file, a number of rounds and so many numbers that nothing was to be refused of
+abbrev pub Shown : Meaning → List ℕ → ℕ → ℕ → Type 0
+Shown k f rounds given = (question k f ≡ accepted) × (rounds-asked rounds ≡ Ok tt) × (given ≤ 64)
