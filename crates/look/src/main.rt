@@ -75,7 +75,14 @@ fn main(rt: LibcRuntime) -> Result<(), AnyError> {
         eprint!(rt, "{USAGE}")?;
         return Err("usage".into());
     };
-    let file = fs::read(&rt, request.file.as_str())?;
+    let file = match fs::read(&rt, request.file.as_str()) {
+        Ok(file) => file,
+        Err(e) => {
+            let name = request.file.as_str();
+            eprintln!(rt, "look: cannot read {name}: {e}")?;
+            return Err("unreadable".into());
+        }
+    };
     if file.get(2).copied() == Some(Truth::BYTE) {
         look::<Truth>(&rt, "truth values", file.as_slice(), &request)
     } else {

@@ -1,0 +1,13 @@
+// Worked cases of the two small tables, proved of the definitions that the contracts cite.
+ghost use mathlib.Core.Path.{_≡_};
+ghost use Rattle.cases.specs.Plays.{Play-cases};
+ghost use Rattle.cases.specs.Tables.{Accepted};
+
+// How many small tables there are.
+pub fn worked_cases() -> u8
+    ensures count { λ r. ⌜ r ≡ 2 ⌝ }
+    ensures tables { λ r. ⌜ Accepted ⌝ }
+    ensures plays { λ r. ⌜ Play-cases ⌝ }
+{
+    2
+}
