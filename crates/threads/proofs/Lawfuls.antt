@@ -31,7 +31,7 @@ use Rattle.states.specs.declared.state.State.{State}
 use Rattle.threads.specs.Codes.{Lawful-codes, Lawful-entry, Lawful-state}
 use Rattle.threads.specs.Effects.{ended, taken, freed, effect, effect-of, next}
 use Rattle.states.specs.Entries.{no-entry, asleep, awake, labelled, with-local}
-use Rattle.threads.specs.Plays.{Played, closed, served, serve, rounds, bound, thread, play, program-slots, slot-total, cells-of}
+use Rattle.threads.specs.Plays.{Played, closed, served, serve, rounds-by, rounds, bound, thread, play, program-slots, slot-total, cells-of}
 use Rattle.threads.specs.Slots.{Ran, ran, run, stops, unless-stopped, slot-of}
 use Rattle.states.specs.States.{entry, label, created, value, put, go, mark, create, change, padded, beginning, mutex}
 use Rattle.threads.specs.Steps.{progress, after}
@@ -213,7 +213,7 @@ module _ (k : Meaning) (laws : Lawful k) where
         lawful-closed r (λ s′. more s′ ns) (r .slot .end) w (g (r .state) ns w)
 
     lawful-rounds : (l : List ℕ) (s : State) (ns : List ℕ) → Lawful-state k s → Lawful-state k (rounds k p l s ns .state)
-    unfolding rounds
+    unfolding rounds-by
     lawful-rounds [] s ns h = h
     lawful-rounds (i ∷ rest) s ns h =
         elim (created s i) as (λ b. Lawful-state k (cond b (served k p i s (rounds k p rest) ns) (rounds k p rest s ns) .state)) [

@@ -4,3 +4,5 @@ pub mod Turning
 pub mod Running
 pub mod Lawfuls
 pub mod Playing
+pub mod Laws
+pub mod Runners

@@ -56,7 +56,7 @@ module _ (k : Meaning) (p : Program) (n : ℕ) where
   turned-waits q r end.Failed h = tt
   turned-waits q r end.Cut h = tt
 
-  turn-waits : (at : Point) (g : ℕ) → at .slot < n → Waits (turn k p n at g .point) (turn k p n at g .turn .outcome)
+  pub turn-waits : (at : Point) (g : ℕ) → at .slot < n → Waits (turn k p n at g .point) (turn k p n at g .turn .outcome)
   turn-waits at g h =
       let r = serve k p (at .slot % width p) (at .state) g in
       subst (λ (t : Turned). Waits (t .point) (t .turn .outcome)) (sym (turn-there k p n at g h)) (turned-waits (at .slot) r (r .slot .end) h)

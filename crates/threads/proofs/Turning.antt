@@ -19,13 +19,13 @@ use Rattle.threads.specs.declared.point.Point.{Point}
 use Rattle.threads.specs.declared.slot.SlotEnd.{SlotEnd}
 use Rattle.threads.specs.declared.slot.SlotEnd.the-variants as end
 use Rattle.states.specs.declared.state.State.{State}
-use Rattle.threads.specs.Plays.{Played, played, prefixed, bound, serve, closed, served, rounds, slots, program-slots}
+use Rattle.threads.specs.Plays.{Played, played, prefixed, bound, serve, closed, served, rounds-by, rounds, slots, program-slots}
 use Rattle.threads.specs.Slots.{Ran}
 use Rattle.states.specs.States.{created}
 use Rattle.threads.specs.Turns.{width, seek, point, landed, standing, Turned, turned-so, turn, Stands, rest}
 use Rattle.threads.proofs.Seeks.{seek-found, seek-past, seek-none}
 
-slots-more : (t n q : ℕ) → q < n → drop q (slots t n) ≡ q % t ∷ drop (q + 1) (slots t n)
+pub slots-more : (t n q : ℕ) → q < n → drop q (slots t n) ≡ q % t ∷ drop (q + 1) (slots t n)
 slots-more t n q h =
     let e = length-map-counting (λ q. q % t) 0 n in
     let m = drop-more (slots t n) q 0 (omega arith) in
@@ -38,20 +38,20 @@ slots-all t n q h = let e = length-map-counting (λ q. q % t) 0 n in drop-all q 
 module _ (k : Meaning) (p : Program) (n : ℕ) where
   -- a slot that exists
   pub rest-there : (at : Point) (ns : List ℕ) → at .slot < n → created (at .state) (at .slot % width p) ≡ true → rest k p n at ns ≡ served k p (at .slot % width p) (at .state) (rounds k p (drop (at .slot + 1) (program-slots p n))) ns
-  unfolding rounds
+  unfolding rounds-by
   rest-there at ns h e =
       ap (λ l. rounds k p l (at .state) ns) (slots-more (width p) n (at .slot) h)
       ∙ ap (λ b. cond b (served k p (at .slot % width p) (at .state) (rounds k p (drop (at .slot + 1) (program-slots p n))) ns) (rounds k p (drop (at .slot + 1) (program-slots p n)) (at .state) ns)) e
 
   -- one that does not
   rest-skips : (q : ℕ) (s : State) (ns : List ℕ) → q < n → created s (q % width p) ≡ false → rest k p n (point q s) ns ≡ rest k p n (point (q + 1) s) ns
-  unfolding rounds
+  unfolding rounds-by
   rest-skips q s ns h e =
       ap (λ l. rounds k p l s ns) (slots-more (width p) n q h)
       ∙ ap (λ b. cond b (served k p (q % width p) s (rounds k p (drop (q + 1) (program-slots p n))) ns) (rounds k p (drop (q + 1) (program-slots p n)) s ns)) e
 
   pub rest-full : (at : Point) (ns : List ℕ) → n ≤ at .slot → rest k p n at ns ≡ played (Ended Full) [] (at .state)
-  unfolding rounds
+  unfolding rounds-by
   rest-full at ns h = ap (λ l. rounds k p l (at .state) ns) (slots-all (width p) n (at .slot) h)
 
   -- the slots that do not exist are passed over

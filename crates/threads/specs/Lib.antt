@@ -4,5 +4,6 @@ pub mod Slots
 pub mod Plays
 pub mod Turns
 pub mod Machines
+pub mod Points
 pub mod Reports
 pub mod Codes

@@ -47,17 +47,24 @@ closed r more end.Done = prefixed (r .slot .count .0) (more (r .state))
 closed r more end.Failed = played (Ended Failed) (r .slot .count .0 ∷ []) (r .state)
 closed r more end.Cut = played (Ended Cut) (r .slot .count .0 ∷ []) (r .state)
 
--- a slot that exists, with the numbers left
-abbrev pub served : Meaning → Program → ℕ → State → (State → List ℕ → Played) → List ℕ → Played
-served k p i s more [] = played (Open (bound p s i)) [] s
-served k p i s more (n ∷ ns) =
-    let r = serve k p i s n in
+-- The rules of slots, for any way to serve a slot and any bound: a slot that exists, with the numbers left.
+abbrev pub served-by : (ℕ → State → ℕ → Ran) → (State → ℕ → ℕ) → ℕ → State → (State → List ℕ → Played) → List ℕ → Played
+served-by way top i s more [] = played (Open (top s i)) [] s
+served-by way top i s more (n ∷ ns) =
+    let r = way i s n in
     closed r (λ s′. more s′ ns) (r .slot .end)
 
 -- the slots of these threads in turn; a slot exists only if its thread is created by then
-unfoldable pub rounds : Meaning → Program → List ℕ → State → List ℕ → Played
-rounds k p [] s ns = played (Ended Full) [] s
-rounds k p (i ∷ rest) s ns = cond (created s i) (served k p i s (rounds k p rest) ns) (rounds k p rest s ns)
+unfoldable pub rounds-by : (ℕ → State → ℕ → Ran) → (State → ℕ → ℕ) → List ℕ → State → List ℕ → Played
+rounds-by way top [] s ns = played (Ended Full) [] s
+rounds-by way top (i ∷ rest) s ns = cond (created s i) (served-by way top i s (rounds-by way top rest) ns) (rounds-by way top rest s ns)
+
+-- the same in the thread machine
+abbrev pub served : Meaning → Program → ℕ → State → (State → List ℕ → Played) → List ℕ → Played
+served k p = served-by (serve k p) (bound p)
+
+abbrev pub rounds : Meaning → Program → List ℕ → State → List ℕ → Played
+rounds k p = rounds-by (serve k p) (bound p)
 
 -- n slots, which t threads have in turn
 abbrev pub slots : ℕ → ℕ → List ℕ

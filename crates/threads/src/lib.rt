@@ -3,6 +3,7 @@ pub mod effect;
 pub mod machine;
 pub mod play;
 pub mod point;
+pub mod runner;
 pub mod slot;
 pub mod step;
 pub mod turn;

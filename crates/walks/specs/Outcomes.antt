@@ -7,3 +7,8 @@ use Rattle.walks.specs.declared.outcome.Outcome.the-variants.{Open, Ended}
 abbrev pub bound : Outcome → ℕ
 bound (Open b) = b
 bound (Ended e) = 0
+
+-- a run that wants one more number
+abbrev pub IsOpen : Outcome → Type 0
+IsOpen (Open b) = Unit {0}
+IsOpen (Ended e) = ⊥

@@ -1,2 +1,3 @@
-// What a list of numbers comes to.
+// What a list of numbers comes to, and what is walked.
 pub mod outcome;
+pub mod runner;

@@ -1,9 +1,9 @@
 use mathlib.Core.Path.{refl}
-use Rattle.threads.specs.Plays.{rounds}
+use Rattle.threads.specs.Plays.{rounds-by}
 use Rattle.threads.specs.Slots.{run}
 use Rattle.cases.proofs.worked_cases.Needs as need
 
 pub returns : need.returns
-unfolding rounds run
+unfolding rounds-by run
 returns c =
     record { count = refl; tables = (refl, refl); plays = ((refl, refl, refl), (refl, refl, refl), (refl, refl, refl), (refl, refl, refl), (refl, refl, refl), (refl, refl, refl), (refl, refl, refl), (refl, refl, refl), (refl, refl, refl)) }
