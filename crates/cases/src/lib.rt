@@ -1,5 +1,6 @@
 // Worked cases of the two small tables, proved of the definitions that the contracts cite.
 ghost use mathlib.Core.Path.{_≡_};
+ghost use Rattle.cases.specs.Drives.{Translated, Drive-cases};
 ghost use Rattle.cases.specs.Plays.{Play-cases};
 ghost use Rattle.cases.specs.Tables.{Accepted};
 
@@ -8,6 +9,8 @@ pub fn worked_cases() -> u8
     ensures count { λ r. ⌜ r ≡ 2 ⌝ }
     ensures tables { λ r. ⌜ Accepted ⌝ }
     ensures plays { λ r. ⌜ Play-cases ⌝ }
+    ensures translated { λ r. ⌜ Translated ⌝ }
+    ensures drives { λ r. ⌜ Drive-cases ⌝ }
 {
     2
 }

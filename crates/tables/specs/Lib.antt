@@ -2,3 +2,4 @@ pub mod Program
 pub mod Tables
 pub mod Encoded
 pub mod WellFormed
+pub mod Slots

@@ -31,7 +31,8 @@ use Rattle.states.specs.declared.state.State.{State}
 use Rattle.threads.specs.Codes.{Lawful-codes, Lawful-entry, Lawful-state}
 use Rattle.threads.specs.Effects.{ended, taken, freed, effect, effect-of, next}
 use Rattle.states.specs.Entries.{no-entry, asleep, awake, labelled, with-local}
-use Rattle.threads.specs.Plays.{Played, closed, served, serve, rounds-by, rounds, bound, thread, play, program-slots, slot-total, cells-of}
+use Rattle.tables.specs.Slots.{program-slots, slot-total}
+use Rattle.threads.specs.Plays.{Played, closed, served, serve, rounds-by, rounds, bound, thread, play, cells-of}
 use Rattle.threads.specs.Slots.{Ran, ran, run, stops, unless-stopped, slot-of}
 use Rattle.states.specs.States.{entry, label, created, value, put, go, mark, create, change, padded, beginning, mutex}
 use Rattle.threads.specs.Steps.{progress, after}

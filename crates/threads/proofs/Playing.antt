@@ -12,7 +12,8 @@ use Rattle.kinds.specs.Meaning.{Meaning}
 use Rattle.records.specs.declared.refusal.Refusal.{Refusal}
 use Rattle.tables.specs.Program.{Program}
 use Rattle.threads.specs.declared.point.Point.{Point}
-use Rattle.threads.specs.Plays.{play, slot-total}
+use Rattle.tables.specs.Slots.{slot-total}
+use Rattle.threads.specs.Plays.{play}
 use Rattle.threads.specs.Reports.{answered, front}
 use Rattle.states.specs.States.{beginning}
 use Rattle.threads.specs.Turns.{first, rest, Stands}

@@ -30,7 +30,8 @@ use Rattle.threads.specs.declared.slot.Slot.{Slot}
 use Rattle.threads.specs.declared.slot.SlotEnd.the-variants as end
 use Rattle.threads.specs.Effects.{next}
 use Rattle.threads.specs.Machines.{program, total, plays}
-use Rattle.threads.specs.Plays.{Played, serve, bound, rounds, slots, program-slots, slot-total, play, thread}
+use Rattle.tables.specs.Slots.{slots, program-slots, slot-total}
+use Rattle.threads.specs.Plays.{Played, serve, bound, rounds, play, thread}
 use Rattle.threads.specs.Points.{Ready, Follows}
 use Rattle.threads.specs.Slots.{Ran, ran, run, stops, unless-stopped, slot-of}
 use Rattle.threads.specs.Steps.{progress, after}

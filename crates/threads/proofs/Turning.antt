@@ -19,7 +19,8 @@ use Rattle.threads.specs.declared.point.Point.{Point}
 use Rattle.threads.specs.declared.slot.SlotEnd.{SlotEnd}
 use Rattle.threads.specs.declared.slot.SlotEnd.the-variants as end
 use Rattle.states.specs.declared.state.State.{State}
-use Rattle.threads.specs.Plays.{Played, played, prefixed, bound, serve, closed, served, rounds-by, rounds, slots, program-slots}
+use Rattle.tables.specs.Slots.{slots, program-slots}
+use Rattle.threads.specs.Plays.{Played, played, prefixed, bound, serve, closed, served, rounds-by, rounds}
 use Rattle.threads.specs.Slots.{Ran}
 use Rattle.states.specs.States.{created}
 use Rattle.threads.specs.Turns.{width, seek, point, landed, standing, Turned, turned-so, turn, Stands, rest}

@@ -11,7 +11,8 @@ use Rattle.kinds.specs.Meaning.{Meaning}
 use Rattle.tables.specs.Program.{Program}
 use Rattle.tables.specs.Tables.{view}
 use Rattle.threads.specs.declared.machine.Machine.{Machine}
-use Rattle.threads.specs.Plays.{Played, play, slot-total, cells-of}
+use Rattle.tables.specs.Slots.{slot-total}
+use Rattle.threads.specs.Plays.{Played, play, cells-of}
 
 abbrev few : ℕ → Bool
 few k = leb 1 k && leb k 8

@@ -1,13 +1,13 @@
 -- A run over a schedule: the rules of rounds and slots.
 use mathlib.Core.Bool.{cond}
-use mathlib.Core.List.{List, [], _∷_, map}
-use Prim.Native.Nat.{ℕ, _-_, _*_, _%_}
+use mathlib.Core.List.{List, [], _∷_}
+use Prim.Native.Nat.{ℕ, _-_}
 use lib.Dec.{ltb}
 use lib.ListN.{length, take}
-use Rattle.std.specs.Iters.{counting}
 use Rattle.kinds.specs.Meaning.{Meaning}
 use Rattle.records.specs.declared.statement.Thread.{Thread}
 use Rattle.tables.specs.Program.{Program, size}
+use Rattle.tables.specs.Slots.{slot-total, program-slots}
 use Rattle.walks.specs.declared.outcome.Ending.the-variants.{Failed, Cut, Full}
 use Rattle.walks.specs.declared.outcome.Outcome.{Outcome}
 use Rattle.walks.specs.declared.outcome.Outcome.the-variants.{Open, Ended}
@@ -65,17 +65,6 @@ served k p = served-by (serve k p) (bound p)
 
 abbrev pub rounds : Meaning → Program → List ℕ → State → List ℕ → Played
 rounds k p = rounds-by (serve k p) (bound p)
-
--- n slots, which t threads have in turn
-abbrev pub slots : ℕ → ℕ → List ℕ
-slots t n = map (λ q. q % t) (counting 0 n)
-
--- how many slots so many rounds have
-abbrev pub slot-total : Program → ℕ → ℕ
-slot-total p k = k * length (p .texts)
-
-abbrev pub program-slots : Program → ℕ → List ℕ
-program-slots p n = slots (length (p .texts)) n
 
 -- the thread machine's run of a program over so many rounds
 abbrev pub play : Meaning → Program → ℕ → List ℕ → Played

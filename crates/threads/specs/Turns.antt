@@ -15,7 +15,8 @@ use Rattle.threads.specs.declared.slot.SlotEnd.{SlotEnd}
 use Rattle.threads.specs.declared.slot.SlotEnd.the-variants as end
 use Rattle.states.specs.declared.state.State.{State}
 use Rattle.threads.specs.declared.turn.Turn.{Turn}
-use Rattle.threads.specs.Plays.{Played, bound, serve, rounds, program-slots}
+use Rattle.tables.specs.Slots.{program-slots}
+use Rattle.threads.specs.Plays.{Played, bound, serve, rounds}
 use Rattle.threads.specs.Slots.{Ran}
 use Rattle.states.specs.States.{created, beginning}
 

@@ -4,7 +4,7 @@ use Prim.Native.Nat.{_≤_}
 use lib.ListN.{length}
 use Rattle.tables.specs.Tables.{view}
 use Rattle.walks.specs.declared.outcome.Outcome.the-variants.{Open, Ended}
-use Rattle.threads.specs.Plays.{slot-total}
+use Rattle.tables.specs.Slots.{slot-total}
 use Rattle.threads.specs.Turns.{rest, with-point}
 use Rattle.threads.proofs.Running.{Running, begins, goes-on, ends-early, ends-late}
 use Rattle.threads.proofs.machine.Machine.run.Needs as need

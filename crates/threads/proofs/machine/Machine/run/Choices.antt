@@ -1,5 +1,5 @@
 use Rattle.tables.specs.Tables.{view}
-use Rattle.threads.specs.Plays.{slot-total}
+use Rattle.tables.specs.Slots.{slot-total}
 use Rattle.threads.specs.Turns.{rest}
 use Rattle.threads.proofs.Running.{Running}
 use Rattle.threads.proofs.machine.Machine.run.Given as given

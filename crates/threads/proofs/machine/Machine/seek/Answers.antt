@@ -2,7 +2,7 @@ use mathlib.Core.Path.{_≡_, sym, ap, _∙_}
 use Prim.Native.Nat.{_<_, _≤_}
 use native.Mathlib.Omega.{arith}
 use Rattle.tables.specs.Tables.{view}
-use Rattle.threads.specs.Plays.{slot-total}
+use Rattle.tables.specs.Slots.{slot-total}
 use Rattle.states.specs.States.{created}
 use Rattle.threads.proofs.Seeks.{seek-found, seek-past, seek-none}
 use Rattle.threads.proofs.machine.Machine.seek.Needs as need

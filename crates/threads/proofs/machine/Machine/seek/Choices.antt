@@ -1,7 +1,7 @@
 use mathlib.Core.Path.{_≡_}
 use Prim.Native.Nat.{_-_}
 use Rattle.tables.specs.Tables.{view}
-use Rattle.threads.specs.Plays.{slot-total}
+use Rattle.tables.specs.Slots.{slot-total}
 use Rattle.threads.specs.Turns.{seek}
 use Rattle.threads.proofs.machine.Machine.seek.Given as given
 

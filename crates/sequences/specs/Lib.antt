@@ -1,0 +1,5 @@
+pub mod Words
+pub mod States
+pub mod Code
+pub mod Acts
+pub mod Drives
