@@ -6,6 +6,7 @@ const MUTEXES: usize = 8;
 const THREADS: usize = 8;
 const LOCALS: usize = 8;
 const STATEMENTS: usize = 48;
+const CODES: usize = CELLS + THREADS * LOCALS;
 const ROUNDS: usize = 8;
 const SLOTS: usize = ROUNDS * THREADS;
 const RECORD: usize = 10;
@@ -19,18 +20,24 @@ pub struct Counts {
     pub full: u64,
 }
 
-/// Counts the leaves of the table in `file`, for so many rounds. Exits with a message if that is no table.
+/// Counts the leaves of the table in `file`, for so many rounds. Exits with a message if there is no such table.
 pub fn explore(file: &[u8], rounds: u32) -> Counts {
-    let counts = Program::decode(file).and_then(|(kind, program)| match (kind, rounds) {
-        (_, 0) | (_, 9..) => Err(format!("{rounds} rounds: 1 to {ROUNDS} are allowed")),
-        (1, _) => Ok(walk::<Words>(&program, rounds as u8)),
-        (2, _) => Ok(walk::<Truth>(&program, rounds as u8)),
-        _ => Err(format!("no kind has the byte {kind}")),
-    });
-    counts.unwrap_or_else(|message| {
+    try_explore(file, rounds).unwrap_or_else(|message| {
         eprintln!("explorer: {message}");
         std::process::exit(2)
     })
+}
+
+fn try_explore(file: &[u8], rounds: u32) -> Result<Counts, String> {
+    if !(1..=ROUNDS as u32).contains(&rounds) {
+        return Err(format!("{rounds} rounds: 1 to {ROUNDS} are allowed"));
+    }
+    let (kind, program) = Program::decode(file)?;
+    match kind {
+        1 => Ok(walk::<Words>(&program, rounds as u8)),
+        2 => Ok(walk::<Truth>(&program, rounds as u8)),
+        _ => Err(format!("no kind has the byte {kind}")),
+    }
 }
 
 // ---- kinds of value ----
@@ -88,11 +95,8 @@ impl Kind for Truth {
 
 // ---- programs ----
 
-#[derive(Clone, Copy)]
-enum Place {
-    Shared(u8),
-    Local(u8),
-}
+/// Where a cell stands among the codes of a state: the shared cells first, then the local cells of each thread.
+type Place = u8;
 
 #[derive(Clone, Copy)]
 enum Statement {
@@ -140,7 +144,11 @@ fn record(records: &mut std::slice::ChunksExact<u8>, mark: &[u8; 2]) -> Result<R
 
 /// The number, if it is below the limit.
 fn below(number: u8, limit: usize, what: &str) -> Result<u8, String> {
-    if (number as usize) < limit { Ok(number) } else { Err(format!("{what} {number} is not below {limit}")) }
+    if (number as usize) < limit {
+        Ok(number)
+    } else {
+        Err(format!("{what} {number} is not below {limit}"))
+    }
 }
 
 impl Program {
@@ -158,22 +166,22 @@ impl Program {
         for cell in &mut program.cells[..shared] {
             *cell = record(&mut records, b"SC")?.c;
         }
-        for _ in 0..threads {
+        for thread in 0..threads {
             let head = record(&mut records, b"TH")?;
             let locals = below(head.d, LOCALS + 1, "the count of local cells,")? as usize;
             let length = below(head.a, STATEMENTS + 1, "the count of statements,")?;
             let text = (0..length).map(|number| {
                 let Record { op, d, a, b, c } = record(&mut records, b"ST")?;
                 let place = |place: u8| match place.checked_sub(CELLS as u8) {
-                    None => below(place, shared, "shared cell").map(Place::Shared),
-                    Some(local) => below(local, locals, "local cell").map(Place::Local),
+                    None => below(place, shared, "shared cell"),
+                    Some(local) => Ok((CELLS + thread * LOCALS) as Place + below(local, locals, "local cell")?),
                 };
                 let label = || match u8::try_from(c) {
                     Ok(label) if number < label && label <= length => Ok(label),
                     _ => Err(format!("statement {number} leads to label {c}")),
                 };
                 let mutex = || below(d, mutexes, "mutex");
-                let thread = || below(d, threads, "thread");
+                let other = || below(d, threads, "thread");
                 Ok(match op {
                     1 => Statement::Set(place(d)?, c),
                     2 => Statement::Copy(place(d)?, place(a)?),
@@ -189,8 +197,8 @@ impl Program {
                     12 => Statement::Destroy(mutex()?),
                     13 => Statement::Lock(mutex()?),
                     14 => Statement::Unlock(mutex()?),
-                    15 => Statement::Create(thread()?),
-                    16 => Statement::Join(thread()?),
+                    15 => Statement::Create(other()?),
+                    16 => Statement::Join(other()?),
                     _ => return Err(format!("no statement has the number {op}")),
                 })
             });
@@ -213,12 +221,13 @@ enum Mutex {
 struct Entry {
     label: u8,
     created: bool,
-    locals: [u32; LOCALS],
 }
 
+/// It is copied for each number that is tried; the alignment makes that a little faster.
 #[derive(Clone, Copy)]
+#[repr(align(32))]
 struct State {
-    cells: [u32; CELLS],
+    codes: [u32; CODES],
     mutexes: [Mutex; MUTEXES],
     threads: [Entry; THREADS],
 }
@@ -230,15 +239,16 @@ enum Slot {
     Cut,
 }
 
-// Indices are masked: the limits are powers of two, and so no bound is checked at run time.
 impl State {
     fn start(program: &Program) -> State {
-        let entry = Entry { label: 0, created: false, locals: [FRESH; LOCALS] };
-        let mut state =
-            State { cells: program.cells, mutexes: [Mutex::Free; MUTEXES], threads: [entry; THREADS] };
+        let entry = Entry { label: 0, created: false };
+        let mut state = State { codes: [FRESH; CODES], mutexes: [Mutex::Free; MUTEXES], threads: [entry; THREADS] };
+        state.codes[..CELLS].copy_from_slice(&program.cells);
         state.threads[0].created = true;
         state
     }
+
+    // Threads and mutexes are below 8, and the remainder spares the check of that.
 
     #[inline(always)]
     fn entry(&mut self, thread: u8) -> &mut Entry {
@@ -251,11 +261,8 @@ impl State {
     }
 
     #[inline(always)]
-    fn cell(&mut self, own: u8, place: Place) -> &mut u32 {
-        match place {
-            Place::Shared(n) => &mut self.cells[n as usize % CELLS],
-            Place::Local(n) => &mut self.entry(own).locals[n as usize % LOCALS],
-        }
+    fn cell(&mut self, place: Place) -> &mut u32 {
+        &mut self.codes[place as usize]
     }
 
     /// Carries out `number` statements of the thread `own`. Where it is not done, the state is of no use any more.
@@ -270,27 +277,25 @@ impl State {
             };
             label += 1;
             match statement {
-                Statement::Set(d, c) => *self.cell(own, d) = c,
-                Statement::Copy(d, a) => *self.cell(own, d) = *self.cell(own, a),
-                Statement::Sum(d, a, b) => *self.cell(own, d) = K::sum(*self.cell(own, a), *self.cell(own, b)),
-                Statement::Difference(d, a, b) => {
-                    *self.cell(own, d) = K::difference(*self.cell(own, a), *self.cell(own, b))
-                }
-                Statement::Less(d, a, b) => *self.cell(own, d) = K::less(*self.cell(own, a), *self.cell(own, b)),
-                Statement::Same(d, a, b) => *self.cell(own, d) = K::same(*self.cell(own, a), *self.cell(own, b)),
+                Statement::Set(d, c) => *self.cell(d) = c,
+                Statement::Copy(d, a) => *self.cell(d) = *self.cell(a),
+                Statement::Sum(d, a, b) => *self.cell(d) = K::sum(*self.cell(a), *self.cell(b)),
+                Statement::Difference(d, a, b) => *self.cell(d) = K::difference(*self.cell(a), *self.cell(b)),
+                Statement::Less(d, a, b) => *self.cell(d) = K::less(*self.cell(a), *self.cell(b)),
+                Statement::Same(d, a, b) => *self.cell(d) = K::same(*self.cell(a), *self.cell(b)),
                 Statement::Jump(t) => label = t,
                 Statement::Branch(a, t) => {
-                    if !K::holds(*self.cell(own, a)) {
+                    if !K::holds(*self.cell(a)) {
                         label = t
                     }
                 }
                 Statement::Assume(a) => {
-                    if !K::holds(*self.cell(own, a)) {
+                    if !K::holds(*self.cell(a)) {
                         return Slot::Cut;
                     }
                 }
                 Statement::Assert(a) => {
-                    if !K::holds(*self.cell(own, a)) {
+                    if !K::holds(*self.cell(a)) {
                         return Slot::Failed;
                     }
                 }

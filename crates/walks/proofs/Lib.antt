@@ -1,0 +1,9 @@
+pub mod Scans
+pub mod Rows
+pub mod Turns
+pub mod Aheads
+pub mod Points
+pub mod Descents
+pub mod Tallying
+pub mod Visits
+pub mod Advances
