@@ -1,1 +1,3 @@
 pub mod Looks
+pub mod Surveys
+pub mod Requests

@@ -15,6 +15,9 @@ use Rattle.threads.specs.Plays.{Played, play, cells-of}
 use Rattle.threads.specs.Reports.{reported, front, refusal, answered}
 use Rattle.threads.specs.declared.machine.Machine.{Machine}
 use Rattle.threads.specs.Machines.{program}
+use Rattle.std.specs.Of.Vec.{vec-len}
+use Rattle.look.specs.declared.request.Task.{Task}
+use Rattle.look.specs.declared.request.Task.the-variants.{Play, Survey}
 use Rattle.look.specs.declared.sight.Problem.{Problem}
 use Rattle.look.specs.declared.sight.Problem.the-variants.{Memory, File, Call}
 use Rattle.look.specs.declared.sight.Run.{Run}
@@ -33,6 +36,11 @@ ran p r = record { report = reported r; counts = front (r .counts) (replicate 64
 abbrev pub run-answer : Meaning → Program → ℕ → List ℕ → Result Run Refusal
 run-answer k p rounds ns = answered (refusal ns (replicate 64 0) (replicate 16 0) (p .cells)) (ran p (play k p rounds ns))
 
--- a file, a number of rounds and so many numbers that nothing was to be refused of
-abbrev pub Shown : Meaning → List ℕ → ℕ → ℕ → Type 0
-Shown k f rounds given = (question k f ≡ accepted) × (rounds-asked rounds ≡ Ok tt) × (given ≤ 64)
+-- a schedule is not too long
+abbrev pub Short : Task → Type 0
+Short (Play numbers) = vec-len numbers ≤ 64
+Short (Survey most) = Unit {0}
+
+-- a file, a number of rounds and a task that nothing was to be refused of
+abbrev pub Shown : Meaning → List ℕ → ℕ → Task → Type 0
+Shown k f rounds task = (question k f ≡ accepted) × (rounds-asked rounds ≡ Ok tt) × Short task

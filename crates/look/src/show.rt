@@ -1,4 +1,5 @@
 // How a table and a run are shown.
+use crate::failures::Failures;
 use crate::sight::Run;
 use crate::text::OutcomeText;
 use crate::text::OutcomeTextDisplay;
@@ -10,8 +11,10 @@ use records::statement::Thread;
 use std::fmt;
 use tables::table::Table;
 use threads::machine::Machine;
+use threads::point::Point;
 use walks::outcome::Ending;
 use walks::outcome::Outcome;
+use walks::walk::Walk;
 
 // The statements of one thread, a line each.
 #[derive(Drop)]
@@ -146,5 +149,46 @@ pub impl<V: Kind> fmt::Display for RunText<'_, V> as RunTextDisplay {
             write!(f, " s{i}={c}")?;
         }
         writeln!(f, "")
+    }
+}
+
+// What a survey counted, and the first schedules that fail.
+#[derive(Drop)]
+pub struct SurveyText<'a, V: Kind> {
+    pub machine: &'a Machine<V>,
+    pub walk: &'a Walk<Point>,
+    pub failures: &'a Failures,
+    pub done: bool,
+}
+
+pub impl<V: Kind> fmt::Display for SurveyText<'_, V> as SurveyTextDisplay {
+    fn fmt<W: fmt::Write>(&self, f: &mut fmt::Formatter<W>) -> fmt::Result {
+        let rounds = self.machine.rounds;
+        let visited = self.walk.visited();
+        let failed = self.walk.failed();
+        let cut = self.walk.cut();
+        let full = self.walk.full();
+        if self.done {
+            writeln!(f, "all schedules over {rounds} rounds: {visited}")?;
+        } else {
+            writeln!(
+                f,
+                "the first {visited} schedules over {rounds} rounds; there are more, and a walk visits no more than that"
+            )?;
+        }
+        writeln!(f, "failed: {failed}; cut: {cut}; full: {full}")?;
+        for numbers in self.failures.lists.iter() {
+            write!(f, "failing schedule:")?;
+            for n in numbers.iter() {
+                write!(f, " {n}")?;
+            }
+            writeln!(f, "")?;
+            let slots = SlotsText {
+                machine: self.machine,
+                numbers: numbers.as_slice(),
+            };
+            write!(f, "{slots}")?;
+        }
+        Ok(())
     }
 }
