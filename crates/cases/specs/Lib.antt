@@ -1,3 +1,5 @@
 pub mod Tables
 pub mod Plays
 pub mod Drives
+pub mod Surveys
+pub mod Walks

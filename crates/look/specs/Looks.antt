@@ -9,25 +9,14 @@ use Rattle.kinds.specs.Meaning.{Meaning}
 use Rattle.questions.specs.Answer.{accepted}
 use Rattle.questions.specs.Question.{question}
 use Rattle.records.specs.declared.refusal.Refusal.{Refusal}
-use Rattle.tables.specs.Program.{Program, decoded}
+use Rattle.tables.specs.Program.{Program}
 use Rattle.threads.specs.Machines.{rounds-asked}
 use Rattle.threads.specs.Plays.{Played, play, cells-of}
 use Rattle.threads.specs.Reports.{reported, front, refusal, answered}
-use Rattle.threads.specs.declared.machine.Machine.{Machine}
-use Rattle.threads.specs.Machines.{program}
 use Rattle.std.specs.Of.Vec.{vec-len}
 use Rattle.look.specs.declared.request.Task.{Task}
 use Rattle.look.specs.declared.request.Task.the-variants.{Play, Survey}
-use Rattle.look.specs.declared.sight.Problem.{Problem}
-use Rattle.look.specs.declared.sight.Problem.the-variants.{Memory, File, Call}
 use Rattle.look.specs.declared.sight.Run.{Run}
-
--- a machine on the program of a file, with so many rounds, or the first no of Load and then of the rounds
-abbrev pub Made : {V : Type 0} → Meaning → List ℕ → ℕ → Result (Machine V) Problem → Type 0
-Made k f rounds (Ok m) = (question k f ≡ accepted) × (rounds-asked rounds ≡ Ok tt) × (program m ≡ decoded f) × (m .rounds ≡ rounds)
-Made k f rounds (Err Memory) = Unit {0}
-Made k f rounds (Err (File e)) = question k f ≡ Err e
-Made k f rounds (Err (Call e)) = (question k f ≡ accepted) × (rounds-asked rounds ≡ Err e)
 
 -- the answer of Play, with the buffers that look lends it
 abbrev pub ran : Program → Played → Run

@@ -1,22 +1,11 @@
-// What look finds out about a file and a schedule.
+// What look finds out about a schedule.
 ghost use mathlib.Core.Path.{_≡_};
-ghost use Rattle.look.specs.Looks.{Made, run-answer};
+ghost use Rattle.look.specs.Looks.{run-answer};
 ghost use Rattle.threads.specs.Machines.{program};
 use kinds::Kind;
-use records::refusal::LoadError;
 use records::refusal::Refusal;
-use std::alloc::Global;
-use tables::table::Table;
 use threads::machine::Machine;
 use threads::play::Report;
-
-// Why there is nothing to show.
-#[derive(Clone, Copy)]
-pub enum Problem {
-    Memory,
-    File(LoadError),
-    Call(Refusal),
-}
 
 // A run over a schedule: the first `report.read` counts and the program's own cells say something.
 #[derive(Clone, Copy)]
@@ -24,23 +13,6 @@ pub struct Run {
     pub report: Report,
     pub counts: [u8; 64],
     pub cells: [u32; 16],
-}
-
-// The machine on the program of a file.
-pub fn machine_of<V: Kind>(heap: Global, file: &[u8], rounds: u32) -> Result<Machine<V>, Problem>
-    ensures { λ r. ⌜ Made meaning (now (file .entry)) rounds r ⌝ }
-{
-    let Ok(mut table) = Table::new(heap) else {
-        return Err(Problem::Memory);
-    };
-    if let Err(e) = table.load::<V>(file) {
-        return Err(Problem::File(e));
-    }
-    let mut machine = Machine::new(table);
-    if let Err(e) = machine.set_rounds(rounds) {
-        return Err(Problem::Call(e));
-    }
-    Ok(machine)
 }
 
 // A schedule played on a machine.

@@ -1,10 +1,10 @@
 // How places, statements, outcomes and refusals are written for a person.
-use crate::sight::Problem;
 use records::refusal::LoadError;
 use records::refusal::Refusal;
 use records::statement::Place;
 use records::statement::Statement;
 use std::fmt;
+use surveys::setup::Problem;
 use walks::outcome::Ending;
 use walks::outcome::Outcome;
 

@@ -1,0 +1,3 @@
+pub mod Setups
+pub mod Totals
+pub mod Hosts
