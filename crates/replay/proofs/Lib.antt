@@ -1,0 +1,3 @@
+mod Hexes
+mod Cells
+mod Replying

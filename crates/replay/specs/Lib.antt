@@ -1,0 +1,5 @@
+pub mod Hex
+pub mod Sessions
+pub mod Replies
+pub mod Desks
+pub mod Scripts
