@@ -3,3 +3,4 @@ pub mod Sessions
 pub mod Replies
 pub mod Desks
 pub mod Scripts
+pub mod Surveys

@@ -21,6 +21,7 @@ use Rattle.replay.specs.declared.answer.Answer.{Answer}
 use Rattle.replay.specs.declared.answer.Answer.the-variants as answer
 use Rattle.replay.specs.declared.call.Call.{Call}
 use Rattle.replay.specs.declared.call.Call.the-variants.{Load, Translate, Play, Save}
+use Rattle.replay.specs.declared.survey.Counts.{Counts}
 use Rattle.replay.specs.declared.session.Stage.the-variants.{Loaded, Translated}
 use Rattle.replay.specs.Sessions.{Held, holds, settled, wants-program, wants-translated, else, first-no, translate-answer}
 
@@ -31,6 +32,7 @@ pub data Said : Type 0 where
   translated : Said
   played : Report → List ℕ → List ℕ → Said
   saved : List ℕ → Said
+  surveyed : Counts → Said
   refused : Refusal → Said
   refused-file : LoadError → Said
   unreadable : Said
@@ -41,6 +43,7 @@ said answer.Loaded = loaded
 said answer.Translated = translated
 said (answer.Played r counts cells) = played r (vec-items counts) (vec-items cells)
 said (answer.Saved file) = saved (vec-items file)
+said (answer.Surveyed c) = surveyed c
 said (answer.Refused e) = refused e
 said (answer.RefusedFile e) = refused-file e
 said answer.Unreadable = unreadable

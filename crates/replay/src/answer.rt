@@ -1,12 +1,14 @@
 // The answers to a script.
 use crate::hex::HexText;
 use crate::hex::HexTextDisplay;
+use crate::survey::Counts;
 use records::refusal::LoadError;
 use records::refusal::Refusal;
 use std::fmt;
 use threads::play::Report;
 use walks::outcome::Ending;
 use walks::outcome::Outcome;
+use walks::walk;
 
 #[derive(Drop)]
 pub enum Answer {
@@ -19,6 +21,7 @@ pub enum Answer {
         cells: Vec<u32>,
     },
     Saved(Vec<u8>),
+    Surveyed(Counts),
     Refused(Refusal),
     RefusedFile(LoadError),
     Unreadable,
@@ -83,6 +86,17 @@ pub impl fmt::Display for Answer as AnswerDisplay {
                 let length = file.len();
                 let file = HexText(file.as_slice());
                 write!(f, "{length} bytes {file}")
+            }
+            Answer::Surveyed(counts) => {
+                let visited = counts.visited;
+                let failed = counts.failed;
+                let cut = counts.cut;
+                let full = counts.full;
+                match counts.answer {
+                    walk::Answer::Done => write!(f, "done ")?,
+                    walk::Answer::Spent => write!(f, "spent ")?,
+                }
+                write!(f, "visited={visited} failed={failed} cut={cut} full={full}")
             }
             Answer::Refused(refusal) => {
                 let number = refusal.number();

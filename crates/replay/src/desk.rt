@@ -48,4 +48,19 @@ impl Desk {
             },
         }
     }
+
+    // Goes on with the survey of the session that is open.
+    pub fn survey(&mut self, b: u32) -> Answer
+        ensures { λ _. ⌜ opened (now (self .exit)) ≡ opened (now (self .entry)) ⌝ }
+    {
+        let counted = match self {
+            Desk::Nothing => return Answer::Unreadable,
+            Desk::Words(session) => session.survey_on(b),
+            Desk::Truth(session) => session.survey_on(b),
+        };
+        match counted {
+            Ok(counts) => Answer::Surveyed(counts),
+            Err(refusal) => Answer::Refused(refusal),
+        }
+    }
 }

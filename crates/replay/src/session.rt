@@ -18,6 +18,9 @@ use std::alloc::Global;
 use tables::table::Table;
 use threads::machine::Machine;
 use threads::play::Report;
+use threads::point::Point;
+use threads::runner::MachineRunner;
+use walks::walk::Walk;
 
 #[derive(Clone, Copy)]
 pub enum Stage {
@@ -28,8 +31,10 @@ pub enum Stage {
 
 #[derive(Drop)]
 pub struct Session<V: Kind> {
-    machine: Machine<V>,
-    stage: Stage,
+    pub machine: Machine<V>,
+    pub stage: Stage,
+    // begins anew at each translation
+    pub survey: Walk<Point>,
 }
 
 impl<V: Kind> Session<V> {
@@ -37,9 +42,12 @@ impl<V: Kind> Session<V> {
         ensures { λ r. ⌜ made r (λ s. held s ≡ empty) ⌝ }
     {
         let table = Table::new(heap)?;
+        let machine = Machine::new(table);
+        let survey = Walk::begin(&machine);
         Ok(Session {
-            machine: Machine::new(table),
+            machine,
             stage: Stage::Empty,
+            survey,
         })
     }
 
@@ -69,6 +77,7 @@ impl<V: Kind> Session<V> {
             return Err(Refusal::NotLoaded);
         }
         self.machine.set_rounds(rounds)?;
+        self.survey = Walk::begin(&self.machine);
         self.stage = Stage::Translated;
         Ok(())
     }

@@ -47,8 +47,8 @@ impl<P: Copy> Walk<P> {
         Some(ending)
     }
 
-    // What the walk answers where it stands.
-    fn answer(&self) -> Answer
+    // What the walk answers where it stands: Done if no leaf is left.
+    pub fn answer(&self) -> Answer
         ensures { λ a. ⌜ a ≡ cond (eqb (now (self .entry) .cursor .path .depth) 0) Done Spent ⌝ }
     {
         if self.cursor.path.depth == 0 {
