@@ -2,7 +2,7 @@
 use mathlib.Core.Path.{_≡_}
 use mathlib.Core.List.{List}
 use Prim.Native.Nat.{ℕ, _≤_}
-use lib.ListN.{replicate}
+use lib.ListN.{length, replicate}
 use Rattle.std.specs.declared.result.Result.{Result}
 use Rattle.std.specs.declared.result.Result.the-variants.{Ok, Err}
 use Rattle.kinds.specs.Meaning.{Meaning}
@@ -12,7 +12,8 @@ use Rattle.records.specs.declared.refusal.Refusal.{Refusal}
 use Rattle.tables.specs.Program.{Program}
 use Rattle.threads.specs.Machines.{rounds-asked}
 use Rattle.threads.specs.Plays.{Played, play, cells-of}
-use Rattle.threads.specs.Reports.{reported, front, refusal, answered}
+use Rattle.reports.specs.Reports.{front, refusal, answered}
+use Rattle.threads.specs.Reports.{reported}
 use Rattle.std.specs.Of.Vec.{vec-len}
 use Rattle.look.specs.declared.request.Task.{Task}
 use Rattle.look.specs.declared.request.Task.the-variants.{Play, Survey}
@@ -23,7 +24,7 @@ abbrev pub ran : Program → Played → Run
 ran p r = record { report = reported r; counts = front (r .counts) (replicate 64 0); cells = front (cells-of p (r .state)) (replicate 16 0) }
 
 abbrev pub run-answer : Meaning → Program → ℕ → List ℕ → Result Run Refusal
-run-answer k p rounds ns = answered (refusal ns (replicate 64 0) (replicate 16 0) (p .cells)) (ran p (play k p rounds ns))
+run-answer k p rounds ns = answered (refusal ns (replicate 64 0) (replicate 16 0) (length (p .cells))) (ran p (play k p rounds ns))
 
 -- a schedule is not too long
 abbrev pub Short : Task → Type 0

@@ -4,8 +4,8 @@ ghost use Rattle.look.specs.Looks.{run-answer};
 ghost use Rattle.threads.specs.Machines.{program};
 use kinds::Kind;
 use records::refusal::Refusal;
+use reports::report::Report;
 use threads::machine::Machine;
-use threads::play::Report;
 
 // A run over a schedule: the first `report.read` counts and the program's own cells say something.
 #[derive(Clone, Copy)]

@@ -1,6 +1,7 @@
 // Reading and writing by a number that may lie outside a table.
 ghost use mathlib.Core.Path.{_≡_};
-ghost use lib.ListN.{getD, set};
+ghost use Prim.Native.Nat.{_≤_};
+ghost use lib.ListN.{length, getD, set, take, drop};
 
 // The item at a place, or the default where the table has none.
 pub fn item_or<T: Copy>(items: &[T], at: u8, default: T) -> T
@@ -18,4 +19,14 @@ pub fn set_item<T: Copy>(items: &mut [T], at: u8, x: T)
     if at < items.len() {
         items[at] = x;
     }
+}
+
+// `size` items from `first` on, as far as there are any.
+pub fn part_of<T>(items: &[T], first: usize, size: u8) -> &[T]
+    ensures value { λ r. ⌜ now r ≡ take size (drop first (now (items .entry))) ⌝ }
+    ensures few { λ r. ⌜ length (now r) ≤ size ⌝ }
+{
+    let from = first.min(items.len());
+    let end = from.saturating_add(size as usize).min(items.len());
+    &items[from..end]
 }

@@ -24,7 +24,7 @@ use Rattle.threads.specs.declared.slot.SlotEnd.the-variants as end
 use Rattle.threads.specs.Effects.{next}
 use Rattle.tables.specs.Slots.{program-slots, slot-total}
 use Rattle.threads.specs.Plays.{Played, bound, thread, serve, closed, served, rounds-by, rounds, play, cells-of}
-use Rattle.threads.specs.Reports.{front}
+use Rattle.reports.specs.Reports.{front}
 use Rattle.threads.specs.Slots.{Ran, ran, run, slot-of, stops, unless-stopped}
 use Rattle.threads.specs.Steps.{progress, after}
 

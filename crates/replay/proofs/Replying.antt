@@ -15,9 +15,10 @@ use Rattle.records.specs.Wrote.{counted, filled}
 use Rattle.records.specs.declared.refusal.Refusal.{Refusal}
 use Rattle.records.specs.declared.refusal.Refusal.the-variants.{BufferShort, ListLength}
 use Rattle.tables.specs.Program.{Program}
-use Rattle.threads.specs.declared.play.Report.{Report}
+use Rattle.reports.specs.declared.report.Report.{Report}
 use Rattle.threads.specs.Plays.{Played, cells-of}
-use Rattle.threads.specs.Reports.{reported, front, refusal, answered, unless}
+use Rattle.reports.specs.Reports.{front, refusal, answered, unless}
+use Rattle.threads.specs.Reports.{reported}
 use Rattle.replay.specs.Sessions.{else, first-no}
 use Rattle.replay.specs.Replies.{played, saved, play-said, save-said}
 use Rattle.replay.proofs.Cells.{front-cut}
@@ -50,10 +51,10 @@ saved-so o n room bs old out v l a h t =
     written o (leb (length bs) (length old)) n bs (drop (length bs) old) old out v a h t
     ∙ ap (λ r. save-said bs (else o r)) (counted-same old bs room l)
 
-refusal-same : (ns own counts cells : List ℕ) (i j : ℕ) → length counts ≡ i → length cells ≡ j →
+refusal-same : (ns : List ℕ) (own : ℕ) (counts cells : List ℕ) (i j : ℕ) → length counts ≡ i → length cells ≡ j →
     refusal ns counts cells own ≡ refusal ns (replicate i 0) (replicate j 0) own
 refusal-same ns own counts cells i j e f =
-    let asked : ℕ → ℕ → Option Refusal = λ m n. cond (leb (length ns) 64) (cond (leb (length ns) m && leb (length own) n) None (Some BufferShort)) (Some ListLength) in
+    let asked : ℕ → ℕ → Option Refusal = λ m n. cond (leb (length ns) 64) (cond (leb (length ns) m && leb own n) None (Some BufferShort)) (Some ListLength) in
     ap (λ m. asked m (length cells)) (e ∙ sym (length-replicate i 0)) ∙ ap (asked (length {A = ℕ} (replicate i 0))) (f ∙ sym (length-replicate j 0))
 
 ran-so : (q : Option Refusal) (p : Program) (r : Played) (report : Report) (counts cells counts′ cells′ v w : List ℕ) →
@@ -70,11 +71,11 @@ ran-so (Some d) p r report counts cells counts′ cells′ v w l a hc hs tv tw =
 
 pub played-so : (o : Option Refusal) (p : Program) (r : Played) (report : Report) (ns counts cells counts′ cells′ v w : List ℕ) (i j : ℕ) →
     length (cells-of p (r .state)) ≡ length (p .cells) → length counts ≡ i → length cells ≡ j →
-    Ok report ≡ answered (first-no o (refusal ns counts cells (p .cells))) (reported r) →
-    counts′ ≡ unless (first-no o (refusal ns counts cells (p .cells))) (front (r .counts) counts) counts →
-    cells′ ≡ unless (first-no o (refusal ns counts cells (p .cells))) (front (cells-of p (r .state)) cells) cells →
+    Ok report ≡ answered (first-no o (refusal ns counts cells (length (p .cells)))) (reported r) →
+    counts′ ≡ unless (first-no o (refusal ns counts cells (length (p .cells)))) (front (r .counts) counts) counts →
+    cells′ ≡ unless (first-no o (refusal ns counts cells (length (p .cells)))) (front (cells-of p (r .state)) cells) cells →
     v ≡ take (report .read) counts′ → w ≡ take (length (p .cells)) cells′ →
-    played report v w ≡ play-said (first-no o (refusal ns (replicate i 0) (replicate j 0) (p .cells))) p r
+    played report v w ≡ play-said (first-no o (refusal ns (replicate i 0) (replicate j 0) (length (p .cells)))) p r
 played-so o p r report ns counts cells counts′ cells′ v w i j l ci cj a hc hs tv tw =
-    ran-so (first-no o (refusal ns counts cells (p .cells))) p r report counts cells counts′ cells′ v w l a hc hs tv tw
-    ∙ ap (λ q. play-said (first-no o q) p r) (refusal-same ns (p .cells) counts cells i j ci cj)
+    ran-so (first-no o (refusal ns counts cells (length (p .cells)))) p r report counts cells counts′ cells′ v w l a hc hs tv tw
+    ∙ ap (λ q. play-said (first-no o q) p r) (refusal-same ns (length (p .cells)) counts cells i j ci cj)

@@ -1,7 +1,7 @@
 -- What a session answers to a call.
 use mathlib.Core.List.{List}
 use Prim.Native.Nat.{ℕ}
-use lib.ListN.{replicate}
+use lib.ListN.{length, replicate}
 use Rattle.std.specs.Of.Vec.{vec-items}
 use Rattle.std.specs.declared.option.Option.{Option}
 use Rattle.std.specs.declared.option.Option.the-variants.{Some, None}
@@ -14,9 +14,10 @@ use Rattle.records.specs.declared.refusal.LoadError.{LoadError}
 use Rattle.records.specs.declared.refusal.Refusal.{Refusal}
 use Rattle.tables.specs.Encoded.{encoded}
 use Rattle.tables.specs.Program.{Program, decoded}
-use Rattle.threads.specs.declared.play.Report.{Report}
+use Rattle.reports.specs.declared.report.Report.{Report}
 use Rattle.threads.specs.Plays.{Played, play, cells-of}
-use Rattle.threads.specs.Reports.{reported, refusal}
+use Rattle.reports.specs.Reports.{refusal}
+use Rattle.threads.specs.Reports.{reported}
 use Rattle.replay.specs.declared.answer.Answer.{Answer}
 use Rattle.replay.specs.declared.answer.Answer.the-variants as answer
 use Rattle.replay.specs.declared.call.Call.{Call}
@@ -66,7 +67,7 @@ save-said bs (Err e) = refused e
 
 -- the first no of a play with buffers of these lengths
 abbrev pub play-no : Held → List ℕ → ℕ → ℕ → Option Refusal
-play-no h ns counts cells = first-no (wants-translated (h .stage)) (refusal ns (replicate counts 0) (replicate cells 0) (h .program .cells))
+play-no h ns counts cells = first-no (wants-translated (h .stage)) (refusal ns (replicate counts 0) (replicate cells 0) (length (h .program .cells)))
 
 abbrev pub played-by : Meaning → Held → List ℕ → ℕ → ℕ → Said
 played-by k h ns counts cells = play-said (play-no h ns counts cells) (h .program) (play k (h .program) (h .rounds) ns)

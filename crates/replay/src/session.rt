@@ -7,17 +7,18 @@ ghost use Rattle.records.specs.Wrote.{counted, filled};
 ghost use Rattle.tables.specs.Encoded.{encoded};
 ghost use Rattle.tables.specs.Program.{decoded};
 ghost use Rattle.threads.specs.Machines.{program, plays, cells-left};
-ghost use Rattle.threads.specs.Reports.{reported, front, refusal, answered, unless};
+ghost use Rattle.reports.specs.Reports.{front, refusal, answered, unless};
+ghost use Rattle.threads.specs.Reports.{reported};
 ghost use Rattle.replay.specs.Sessions.{held, holds, empty, settled, wants-program, wants-translated, else, first-no, translate-answer};
 ghost use Rattle.replay.specs.declared.session.Stage.the-variants.{Loaded as loaded-stage, Translated as translated-stage};
 use kinds::Kind;
 use records::refusal::LoadError;
 use records::refusal::Refusal;
+use reports::report::Report;
 use std::alloc::AllocError;
 use std::alloc::Global;
 use tables::table::Table;
 use threads::machine::Machine;
-use threads::play::Report;
 use threads::point::Point;
 use threads::runner::MachineRunner;
 use walks::walk::Walk;
@@ -89,9 +90,9 @@ impl<V: Kind> Session<V> {
         counts: &mut [u8],
         cells: &mut [u32],
     ) -> Result<Report, Refusal>
-        ensures answer { λ r. ⌜ r ≡ answered (first-no (wants-translated (now (self .entry) .stage)) (refusal (now (numbers .entry)) (now (counts .entry)) (now (cells .entry)) (program (now (self .entry) .machine) .cells))) (reported (plays meaning (now (self .entry) .machine) (now (numbers .entry)))) ⌝ }
-        ensures counts { λ _. ⌜ now (counts .exit) ≡ unless (first-no (wants-translated (now (self .entry) .stage)) (refusal (now (numbers .entry)) (now (counts .entry)) (now (cells .entry)) (program (now (self .entry) .machine) .cells))) (front (plays meaning (now (self .entry) .machine) (now (numbers .entry)) .counts) (now (counts .entry))) (now (counts .entry)) ⌝ }
-        ensures cells { λ _. ⌜ now (cells .exit) ≡ unless (first-no (wants-translated (now (self .entry) .stage)) (refusal (now (numbers .entry)) (now (counts .entry)) (now (cells .entry)) (program (now (self .entry) .machine) .cells))) (front (cells-left meaning (now (self .entry) .machine) (now (numbers .entry))) (now (cells .entry))) (now (cells .entry)) ⌝ }
+        ensures answer { λ r. ⌜ r ≡ answered (first-no (wants-translated (now (self .entry) .stage)) (refusal (now (numbers .entry)) (now (counts .entry)) (now (cells .entry)) (length (program (now (self .entry) .machine) .cells)))) (reported (plays meaning (now (self .entry) .machine) (now (numbers .entry)))) ⌝ }
+        ensures counts { λ _. ⌜ now (counts .exit) ≡ unless (first-no (wants-translated (now (self .entry) .stage)) (refusal (now (numbers .entry)) (now (counts .entry)) (now (cells .entry)) (length (program (now (self .entry) .machine) .cells)))) (front (plays meaning (now (self .entry) .machine) (now (numbers .entry)) .counts) (now (counts .entry))) (now (counts .entry)) ⌝ }
+        ensures cells { λ _. ⌜ now (cells .exit) ≡ unless (first-no (wants-translated (now (self .entry) .stage)) (refusal (now (numbers .entry)) (now (counts .entry)) (now (cells .entry)) (length (program (now (self .entry) .machine) .cells)))) (front (cells-left meaning (now (self .entry) .machine) (now (numbers .entry))) (now (cells .entry))) (now (cells .entry)) ⌝ }
     {
         match self.stage {
             Stage::Translated => self.machine.play(numbers, counts, cells),

@@ -5,8 +5,11 @@ use Prim.Native.Nat.{ℕ, zero, suc, _+_}
 use lib.Dec.{eqb, ltb, leb}
 use lib.ListN.{length, drop}
 use Rattle.kinds.specs.Meaning.{Meaning}
+use Rattle.records.specs.declared.statement.Label.{Label}
+use Rattle.records.specs.declared.statement.Thread.{Thread}
 use Rattle.sequences.specs.declared.act.Act.{Act}
 use Rattle.sequences.specs.declared.act.Act.the-variants.{On, Write, Mark, To, Back, Fail, Stop}
+use Rattle.sequences.specs.declared.instruction.Address.{Address}
 use Rattle.sequences.specs.declared.instruction.Instruction.{Instruction}
 use Rattle.sequences.specs.declared.instruction.Instruction.the-variants as op
 use Rattle.sequences.specs.declared.section.SectionEnd.{SectionEnd}
@@ -18,6 +21,10 @@ use Rattle.sequences.specs.Words.{saved, stop-at}
 -- A NEED of a saved label is a whole JOIN; one of a mutex is a part of a LOCK.
 abbrev pub whole : ℕ → Bool
 whole w = leb 8 w && ltb w 16
+
+-- a HOP passes over a label that thread j has left behind or that it is not to reach now
+abbrev pub hopping : SeqState → Thread → Label → Address → Act
+hopping q j t to = cond (ltb (t .0) (word q (saved (j .0))) || leb (word q stop-at) (t .0)) (To false to) (On false)
 
 -- what an instruction in thread i's section comes to
 abbrev pub act : Meaning → ℕ → SeqState → Instruction → Act
@@ -31,7 +38,7 @@ act k i q (op.Jump to) = To true to
 act k i q (op.Branch a to) = cond (k .holds (value k q i a)) (On true) (To true to)
 act k i q (op.Assume a) = cond (k .holds (value k q i a)) (On true) Stop
 act k i q (op.Assert a) = cond (k .holds (value k q i a)) (On true) Fail
-act k i q (op.Hop j t to) = cond (ltb (t .0) (word q (saved (j .0))) || leb (word q stop-at) (t .0)) (To false to) (On false)
+act k i q (op.Hop j t to) = hopping q j t to
 act k i q (op.Guard t) = cond (leb (t .0) (word q stop-at)) (On false) Stop
 act k i q op.Return = Back
 act k i q (op.Must w v) = cond (eqb (word q (w .0)) v) (On false) Fail

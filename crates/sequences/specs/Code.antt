@@ -94,10 +94,13 @@ module _ (p : Program) (i : ℕ) (g : ℕ → Bool) where
   behind A (x ∷ xs) l =
       op.Hop (thread i) (label l) (at (past (guards (g (suc l)) (suc l)) (A (suc l)))) ∷ (inner p i A x ++ (guards (g (suc l)) (suc l) ++ behind A xs (suc l)))
 
--- where the guard of a label stands; no jump names the label 0
+-- where the guard of a label stands, these being the thread's statements; no jump names the label 0
+abbrev pub address-of : Program → ℕ → List Statement → ℕ → ℕ
+address-of p i text zero = 0
+address-of p i text (suc t) = address p i (guarded text) text 0 0 t
+
 abbrev pub address-in : Program → ℕ → ℕ → ℕ
-address-in p i zero = 0
-address-in p i (suc t) = address p i (guarded (own p i)) (own p i) 0 0 t
+address-in p i = address-of p i (own p i)
 
 -- the section of thread i
 abbrev pub section : Program → ℕ → List Instruction

@@ -5,6 +5,8 @@ use Prim.Native.Nat.{ℕ, zero, suc, _+_, _-_}
 use lib.Dec.{eqb, ltb}
 use lib.ListN.{length, drop, take}
 use Rattle.kinds.specs.Meaning.{Meaning}
+use Rattle.std.specs.declared.option.Option.{Option}
+use Rattle.std.specs.declared.option.Option.the-variants.{Some, None}
 use Rattle.tables.specs.Program.{Program}
 use Rattle.walks.specs.declared.outcome.Ending.the-variants as ending
 use Rattle.walks.specs.declared.outcome.Outcome.{Outcome}
@@ -17,7 +19,7 @@ use Rattle.sequences.specs.declared.section.SectionEnd.the-variants as end
 use Rattle.sequences.specs.declared.state.SeqState.{SeqState}
 use Rattle.sequences.specs.Acts.{Called, call}
 use Rattle.sequences.specs.Code.{at, section, driver}
-use Rattle.sequences.specs.States.{word, with-word, beginning}
+use Rattle.sequences.specs.States.{word, with-word, begun}
 use Rattle.sequences.specs.Words.{active, saved, stop-at}
 
 -- a program's instructions: the section of each thread, and the driver
@@ -76,6 +78,11 @@ move (op.MustNot w v) = stray
 move (op.Need w v) = stray
 move (op.Put w v) = stray
 
+-- the move that an instruction is, if there is one
+abbrev pub move-of : Option Instruction → Move
+move-of None = stray
+move-of (Some x) = move x
+
 -- the move at an address of the driver
 abbrev pub first-move : List Instruction → Move
 first-move [] = stray
@@ -127,7 +134,7 @@ pub record Driven : Type 0 where
 abbrev pub prefixed : ℕ → Driven → Driven
 prefixed c r = record { outcome = r .outcome; counts = c ∷ r .counts; state = r .state }
 
-abbrev stays : Outcome → SeqPoint → Driven
+abbrev pub stays : Outcome → SeqPoint → Driven
 stays o p = record { outcome = o; counts = []; state = p .state }
 
 -- a run that has come to an outcome at a point reads the numbers left
@@ -136,17 +143,28 @@ drive-from k s o p [] = stays o p
 drive-from k s (Open b) p (n ∷ ns) = let t = turn k s p n in prefixed (t .count) (drive-from k s (t .outcome) (t .point) ns)
 drive-from k s (Ended e) p (n ∷ ns) = stays (Ended e) p
 
+-- from the initial codes of the cells to the first GUESS, and over a list of guesses
+abbrev pub started-on : Meaning → Sequence → List ℕ → Moved
+started-on k s codes = proceeds k s 0 (begun k codes)
+
+abbrev pub drive-on : Meaning → Sequence → List ℕ → List ℕ → Driven
+drive-on k s codes ns =
+    let t = started-on k s codes in
+    drive-from k s (t .outcome) (t .point) ns
+
+-- the program's own cells
+abbrev pub own-cells : List ℕ → SeqState → List ℕ
+own-cells codes q = take (length codes) (q .cells)
+
 -- the sequential program of a table, and its run over a list of guesses
 abbrev pub sequence : Program → ℕ → Sequence
 sequence p rounds = record { sections = section p; guide = driver p rounds }
 
 abbrev pub started : Meaning → Program → ℕ → Moved
-started k p rounds = proceeds k (sequence p rounds) 0 (beginning k p)
+started k p rounds = started-on k (sequence p rounds) (p .cells)
 
 abbrev pub drive : Meaning → Program → ℕ → List ℕ → Driven
-drive k p rounds ns =
-    let t = started k p rounds in
-    drive-from k (sequence p rounds) (t .outcome) (t .point) ns
+drive k p rounds ns = drive-on k (sequence p rounds) (p .cells) ns
 
 abbrev pub cells-of : Program → SeqState → List ℕ
-cells-of p q = take (length (p .cells)) (q .cells)
+cells-of p q = own-cells (p .cells) q

@@ -2,4 +2,9 @@ pub mod Words
 pub mod States
 pub mod Code
 pub mod Acts
+pub mod Passages
 pub mod Drives
+pub mod Sequences
+pub mod Strides
+pub mod Codes
+pub mod Writes

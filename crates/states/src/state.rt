@@ -29,7 +29,7 @@ pub struct State {
 }
 
 // The initial codes, and the fresh code in the cells that the program does not have.
-fn initial_cells<V: Kind>(codes: &[u32]) -> [u32; 16]
+pub fn initial_cells<V: Kind>(codes: &[u32]) -> [u32; 16]
     requires { ⌜ length (now codes) ≤ 16 ⌝ }
     ensures { λ r. ⌜ r ≡ padded meaning (now (codes .entry)) ⌝ }
 {

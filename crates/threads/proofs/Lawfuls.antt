@@ -28,7 +28,9 @@ use Rattle.threads.specs.declared.slot.SlotEnd.the-variants as end
 use Rattle.states.specs.declared.state.MutexState.{MutexState}
 use Rattle.states.specs.declared.state.MutexState.the-variants.{Free, Destroyed, Held}
 use Rattle.states.specs.declared.state.State.{State}
-use Rattle.threads.specs.Codes.{Lawful-codes, Lawful-entry, Lawful-state}
+use Rattle.states.specs.Codes.{Lawful-codes}
+use Rattle.states.proofs.Codes.{all-or, all-replicate, lawful-padded}
+use Rattle.threads.specs.Codes.{Lawful-entry, Lawful-state}
 use Rattle.threads.specs.Effects.{ended, taken, freed, effect, effect-of, next}
 use Rattle.states.specs.Entries.{no-entry, asleep, awake, labelled, with-local}
 use Rattle.tables.specs.Slots.{program-slots, slot-total}
@@ -84,11 +86,6 @@ threads-lawful k cs ms n at (t ∷ ts) ss f =
     subst (All (Lawful-statement k)) (take-append-drop (t .size) ss)
     (all-append (Lawful-statement k) (take (t .size) ss) (drop (t .size) ss) (numbered-lawful k _ 0 (take (t .size) ss) (f .5)) (threads-lawful k cs ms n (at + t .size) ts (drop (t .size) ss) (f .6)))
 
-all-or : {X : Type 0} (P : X → Type 0) (xs : List X) (i : ℕ) (d : X) → P d → All P xs → P (getD xs i d)
-all-or P [] i d base all = base
-all-or P (x ∷ xs) zero d base all = all .0
-all-or P (x ∷ xs) (suc i) d base all = all-or P xs i d base (all .1)
-
 abbrev Of-some : {X : Type 0} → (X → Type 0) → Option X → Type 0
 Of-some P None = Unit {0}
 Of-some P (Some x) = P x
@@ -97,10 +94,6 @@ all-nth : {X : Type 0} (P : X → Type 0) (xs : List X) (i : ℕ) → All P xs �
 all-nth P [] i all = tt
 all-nth P (x ∷ xs) zero all = all .0
 all-nth P (x ∷ xs) (suc i) all = all-nth P xs i (all .1)
-
-all-replicate : {X : Type 0} (P : X → Type 0) (n : ℕ) (x : X) → P x → All P (replicate n x)
-all-replicate P zero x h = tt
-all-replicate P (suc n) x h = (h, all-replicate P n x h)
 
 -- the code that an effect writes
 abbrev Lawful-effect : Meaning → Effect → Type 0
@@ -226,7 +219,7 @@ module _ (k : Meaning) (laws : Lawful k) where
   lawful-beginning p w =
       let f = all-replicate (λ c. k .lawful c ≡ true) 8 (k .fresh) (laws .fresh) in
       record {
-        cells = all-append (λ c. k .lawful c ≡ true) (p .cells) (drop (length (p .cells)) (replicate 16 (k .fresh))) (w .lawful) (all-drop (λ c. k .lawful c ≡ true) (length (p .cells)) (replicate 16 (k .fresh)) (all-replicate (λ c. k .lawful c ≡ true) 16 (k .fresh) (laws .fresh)));
+        cells = lawful-padded k laws (p .cells) (w .lawful);
         locals = all-set (Lawful-entry k) (replicate 8 (asleep k)) 0 (awake (asleep k)) f (all-replicate (Lawful-entry k) 8 (asleep k) f);
       }
 

@@ -18,11 +18,12 @@ use Rattle.walks.specs.declared.outcome.Ending.the-variants.{Full}
 use Rattle.walks.specs.declared.outcome.Outcome.{Outcome}
 use Rattle.walks.specs.declared.outcome.Outcome.the-variants.{Open, Ended}
 use Rattle.threads.specs.declared.point.Point.{Point}
-use Rattle.threads.specs.declared.play.Report.{Report}
+use Rattle.reports.specs.declared.report.Report.{Report}
+use Rattle.reports.specs.Reports.{front}
 use Rattle.threads.specs.declared.slot.SlotEnd.{SlotEnd}
 use Rattle.threads.specs.declared.slot.SlotEnd.the-variants as end
 use Rattle.threads.specs.Plays.{Played, played, prefixed, bound, serve}
-use Rattle.threads.specs.Reports.{reported, front}
+use Rattle.threads.specs.Reports.{reported}
 use Rattle.threads.specs.Slots.{Ran}
 use Rattle.threads.specs.Turns.{width, standing, Turned, turned-so, turn, Stands, rest, landed}
 use Rattle.threads.proofs.Turning.{rest-there, rest-full, rest-turn, landed-stands, followed, turn-there}

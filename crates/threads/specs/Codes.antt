@@ -1,15 +1,9 @@
 -- Which states hold only lawful codes.
-use mathlib.Core.Path.{_≡_}
-use mathlib.Core.Bool.{true}
-use mathlib.Core.List.{List}
-use Prim.Native.Nat.{ℕ}
 use Rattle.std.specs.shelf.Lists.{All}
 use Rattle.kinds.specs.Meaning.{Meaning}
 use Rattle.states.specs.declared.entries.ThreadEntry.{ThreadEntry}
 use Rattle.states.specs.declared.state.State.{State}
-
-abbrev pub Lawful-codes : Meaning → List ℕ → Type 0
-Lawful-codes k cs = All (λ c. k .lawful c ≡ true) cs
+use Rattle.states.specs.Codes.{Lawful-codes}
 
 abbrev pub Lawful-entry : Meaning → ThreadEntry → Type 0
 Lawful-entry k e = Lawful-codes k (e .locals)

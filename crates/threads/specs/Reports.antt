@@ -1,39 +1,7 @@
--- What Play answers, and what it writes.
-use mathlib.Core.Bool.{Bool, cond, _&&_}
-use mathlib.Core.List.{List, [], _∷_, _++_}
-use Prim.Native.Nat.{ℕ, _+_}
-use lib.Dec.{leb}
-use lib.ListN.{length, drop}
-use Rattle.std.specs.declared.option.Option.{Option}
-use Rattle.std.specs.declared.option.Option.the-variants.{Some, None}
-use Rattle.std.specs.declared.result.Result.{Result}
-use Rattle.std.specs.declared.result.Result.the-variants.{Ok, Err}
-use Rattle.std.specs.shelf.Lists.{sum}
-use Rattle.records.specs.declared.refusal.Refusal.{Refusal}
-use Rattle.records.specs.declared.refusal.Refusal.the-variants.{ListLength, BufferShort}
-use Rattle.threads.specs.declared.play.Report.{Report}
+-- What Play reports.
+use Rattle.reports.specs.declared.report.Report.{Report}
+use Rattle.reports.specs.Reports.{report}
 use Rattle.threads.specs.Plays.{Played}
 
--- a slot count for each number that was read, and all statements carried out
 abbrev pub reported : Played → Report
-reported r = record { outcome = r .outcome; read = length (r .counts); carried = sum (r .counts) }
-
--- a buffer with numbers at its front; those past them stay
-abbrev pub front : List ℕ → List ℕ → List ℕ
-front xs out = xs ++ drop (length xs) out
-
--- the first no: at most 64 numbers, and room for a slot count of each and for the cells
-abbrev pub refusal : (numbers counts cells own : List ℕ) → Option Refusal
-refusal ns counts cells own =
-    cond (leb (length ns) 64)
-    (cond (leb (length ns) (length counts) && leb (length own) (length cells)) None (Some BufferShort))
-    (Some ListLength)
-
-abbrev pub answered : {X : Type 0} → Option Refusal → X → Result X Refusal
-answered None x = Ok x
-answered (Some e) x = Err e
-
--- what a call leaves, and what was there, which a refusal leaves as it was
-abbrev pub unless : {X : Type 0} → Option Refusal → X → X → X
-unless None new old = new
-unless (Some e) new old = old
+reported r = report (r .outcome) (r .counts)

@@ -3,23 +3,18 @@ ghost use mathlib.Core.Path.{_≡_};
 ghost use Prim.Native.Nat.{_≤_};
 ghost use lib.ListN.{length};
 ghost use Rattle.tables.specs.WellFormed.{WellFormed};
-ghost use Rattle.threads.specs.Codes.{Lawful-codes};
+ghost use Rattle.states.specs.Codes.{Lawful-codes};
 ghost use Rattle.threads.specs.Machines.{program, total, plays, cells-left};
-ghost use Rattle.threads.specs.Reports.{reported, front, refusal, answered, unless};
+ghost use Rattle.reports.specs.Reports.{front, refusal, answered, unless};
+ghost use Rattle.threads.specs.Reports.{reported};
 ghost use Rattle.threads.specs.Turns.{Stands, rest};
 use crate::machine::Machine;
 use crate::point::Point;
 use kinds::Kind;
 use records::refusal::Refusal;
+use reports::report::Report;
+use reports::report::asked;
 use walks::outcome::Outcome;
-
-// What a list of numbers came to: how many were read, and how many statements were carried out in all.
-#[derive(Clone, Copy)]
-pub struct Report {
-    pub outcome: Outcome,
-    pub read: u8,
-    pub carried: u16,
-}
 
 impl<V: Kind> Machine<V> {
     // Reads numbers from a point on until the run has ended or none is left, and notes each slot's count.
@@ -55,22 +50,6 @@ impl<V: Kind> Machine<V> {
 }
 
 impl<V: Kind> Machine<V> {
-    // The questions of `play`: the numbers, and the room for what is written.
-    fn asked(&self, numbers: &[u8], counts: &[u8], cells: &[u32]) -> Result<(), Refusal>
-        ensures { λ r. ⌜ r ≡ answered (refusal (now (numbers .entry)) (now (counts .entry)) (now (cells .entry)) (program (now (self .entry)) .cells)) tt ⌝ }
-    {
-        if numbers.len() > 64 {
-            return Err(Refusal::ListLength);
-        }
-        if counts.len() < numbers.len() {
-            return Err(Refusal::BufferShort);
-        }
-        if cells.len() < self.table.cells().len() {
-            return Err(Refusal::BufferShort);
-        }
-        Ok(())
-    }
-
     // `play` once its questions have a yes.
     fn played(&self, numbers: &[u8], counts: &mut [u8], cells: &mut [u32]) -> Report
         requires few { ⌜ length (now numbers) ≤ 64 ⌝ }
@@ -94,12 +73,12 @@ impl<V: Kind> Machine<V> {
         counts: &mut [u8],
         cells: &mut [u32],
     ) -> Result<Report, Refusal>
-        ensures answer { λ r. ⌜ r ≡ answered (refusal (now (numbers .entry)) (now (counts .entry)) (now (cells .entry)) (program (now (self .entry)) .cells)) (reported (plays meaning (now (self .entry)) (now (numbers .entry)))) ⌝ }
-        ensures counts { λ _. ⌜ now (counts .exit) ≡ unless (refusal (now (numbers .entry)) (now (counts .entry)) (now (cells .entry)) (program (now (self .entry)) .cells)) (front (plays meaning (now (self .entry)) (now (numbers .entry)) .counts) (now (counts .entry))) (now (counts .entry)) ⌝ }
-        ensures cells { λ _. ⌜ now (cells .exit) ≡ unless (refusal (now (numbers .entry)) (now (counts .entry)) (now (cells .entry)) (program (now (self .entry)) .cells)) (front (cells-left meaning (now (self .entry)) (now (numbers .entry))) (now (cells .entry))) (now (cells .entry)) ⌝ }
+        ensures answer { λ r. ⌜ r ≡ answered (refusal (now (numbers .entry)) (now (counts .entry)) (now (cells .entry)) (length (program (now (self .entry)) .cells))) (reported (plays meaning (now (self .entry)) (now (numbers .entry)))) ⌝ }
+        ensures counts { λ _. ⌜ now (counts .exit) ≡ unless (refusal (now (numbers .entry)) (now (counts .entry)) (now (cells .entry)) (length (program (now (self .entry)) .cells))) (front (plays meaning (now (self .entry)) (now (numbers .entry)) .counts) (now (counts .entry))) (now (counts .entry)) ⌝ }
+        ensures cells { λ _. ⌜ now (cells .exit) ≡ unless (refusal (now (numbers .entry)) (now (counts .entry)) (now (cells .entry)) (length (program (now (self .entry)) .cells))) (front (cells-left meaning (now (self .entry)) (now (numbers .entry))) (now (cells .entry))) (now (cells .entry)) ⌝ }
         ensures lawful { λ _. ⌜ (WellFormed meaning (program (now (self .entry))) → Lawful-codes meaning (cells-left meaning (now (self .entry)) (now (numbers .entry)))) ⌝ }
     {
-        match self.asked(numbers, counts, cells) {
+        match asked(numbers, counts, cells, self.table.cells().len()) {
             Err(refusal) => Err(refusal),
             Ok(()) => Ok(self.played(numbers, counts, cells)),
         }

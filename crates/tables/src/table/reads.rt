@@ -4,11 +4,12 @@ ghost use mathlib.Core.Bool.{true};
 ghost use Prim.Native.Nat.{_<_, _≤_};
 ghost use lib.ListN.{length};
 ghost use Rattle.std.specs.Options.{isSome};
-ghost use Rattle.tables.specs.Program.{text-of, due, size};
+ghost use Rattle.tables.specs.Program.{text-of, due, own, size};
 ghost use Rattle.tables.specs.Tables.{view};
 use crate::table::Table;
 use crate::text::ThreadText;
 use records::lookup::item_or;
+use records::lookup::part_of;
 use records::statement::Label;
 use records::statement::Statement;
 use records::statement::Thread;
@@ -51,6 +52,15 @@ impl Table {
         ensures { λ r. ⌜ r ≡ size (view (now (self .entry))) (i .0) ⌝ }
     {
         self.text(i).size
+    }
+
+    // The statements of thread `i`.
+    pub fn statements_of(&self, i: Thread) -> &[Statement]
+        ensures value { λ r. ⌜ now r ≡ own (view (now (self .entry))) (i .0) ⌝ }
+        ensures few { λ r. ⌜ length (now r) ≤ 255 ⌝ }
+    {
+        let text = self.text(i);
+        part_of(self.statements.as_slice(), text.first, text.size)
     }
 
     // The statement of thread `i` at a label, if there is one. Then one more is a label too.

@@ -6,8 +6,10 @@ use Rattle.std.proofs.shelf.Lists.{length-take-le}
 use Rattle.states.specs.declared.state.State.{State}
 use Rattle.threads.specs.Machines.{program, total, plays, cells-left}
 use Rattle.threads.specs.Plays.{Played, cells-of}
-use Rattle.threads.specs.Reports.{reported, front}
-use Rattle.threads.proofs.Playing.{first-stands, first-rest, copied-front}
+use Rattle.reports.specs.Reports.{front}
+use Rattle.reports.proofs.Answers.{copied-front}
+use Rattle.threads.specs.Reports.{reported}
+use Rattle.threads.proofs.Playing.{first-stands, first-rest}
 use Rattle.threads.proofs.machine.Machine.played.Needs as need
 
 pub run-report-requires : need.run-report-requires
