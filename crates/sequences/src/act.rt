@@ -43,7 +43,7 @@ fn hop(state: &SeqState, j: Thread, t: Label, to: Address) -> Act
 }
 
 // What an instruction in thread `i`'s section comes to.
-pub fn act_of<V: Kind>(state: &SeqState, i: Thread, instruction: Instruction) -> Act
+pub(crate) fn act_of<V: Kind>(state: &SeqState, i: Thread, instruction: Instruction) -> Act
     ensures { λ r. ⌜ r ≡ said-act meaning (i .0) (now (state .entry)) instruction ⌝ }
 {
     match instruction {

@@ -8,7 +8,7 @@ use crate::inner::Inner;
 use crate::instruction::Instruction;
 
 // One instruction more, if there is room.
-pub fn emit(code: &mut Vec<Instruction>, room: usize, x: Instruction)
+pub(crate) fn emit(code: &mut Vec<Instruction>, room: usize, x: Instruction)
     requires { ⌜ Room room (vec-cap (now code)) (vec-len (now code)) ⌝ }
     ensures items { λ _. ⌜ vec-items (now (code .exit)) ≡ take room (vec-items (now (code .entry)) ++ x ∷ []) ⌝ }
     ensures room { λ _. ⌜ Room room (vec-cap (now (code .exit))) (vec-len (now (code .exit))) ⌝ }
@@ -19,7 +19,7 @@ pub fn emit(code: &mut Vec<Instruction>, room: usize, x: Instruction)
 }
 
 // The instructions of a statement.
-pub fn emit_inner(code: &mut Vec<Instruction>, room: usize, x: Inner)
+pub(crate) fn emit_inner(code: &mut Vec<Instruction>, room: usize, x: Inner)
     requires { ⌜ Room room (vec-cap (now code)) (vec-len (now code)) ⌝ }
     ensures items { λ _. ⌜ vec-items (now (code .exit)) ≡ take room (vec-items (now (code .entry)) ++ listed x) ⌝ }
     ensures room { λ _. ⌜ Room room (vec-cap (now (code .exit))) (vec-len (now (code .exit))) ⌝ }

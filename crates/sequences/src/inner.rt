@@ -36,7 +36,7 @@ fn saved_word(j: Thread) -> Word
 }
 
 // The instructions of a statement of thread `i`, whose labels stand there.
-pub fn inner_of(table: &Table, labels: &Labels, i: Thread, x: Statement) -> Inner
+pub(crate) fn inner_of(table: &Table, labels: &Labels, i: Thread, x: Statement) -> Inner
     requires { ⌜ i .0 < 8 ⌝ }
     ensures { λ r. ⌜ (Low x → listed r ≡ inner-code (view (now (table .entry))) (i .0) (address-at (now (labels .entry))) x) ⌝ }
 {

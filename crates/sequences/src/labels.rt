@@ -21,7 +21,7 @@ fn names(x: Statement, t: u8) -> bool
 }
 
 // Whether the label `t` has a guard: some jump of the thread names it.
-pub fn guarded(text: &[Statement], t: u8) -> bool
+pub(crate) fn guarded(text: &[Statement], t: u8) -> bool
     ensures { λ r. ⌜ r ≡ is-guarded (now (text .entry)) t ⌝ }
 {
     for j in 0..text.len() {
@@ -33,7 +33,7 @@ pub fn guarded(text: &[Statement], t: u8) -> bool
 }
 
 // How many instructions a statement has.
-pub fn width(x: Statement) -> u16
+pub(crate) fn width(x: Statement) -> u16
     ensures value { λ r. ⌜ r ≡ width-of x ⌝ }
     ensures few { λ r. ⌜ r ≤ 3 ⌝ }
 {
@@ -45,7 +45,7 @@ pub fn width(x: Statement) -> u16
 }
 
 // The address behind the guard that a label may have at an address.
-pub fn behind_guard(text: &[Statement], t: u8, at: u16) -> u16
+pub(crate) fn behind_guard(text: &[Statement], t: u8, at: u16) -> u16
     requires { ⌜ at < 2 ^ 15 ⌝ }
     ensures value { λ r. ⌜ r ≡ beyond (is-guarded (now (text .entry)) t) at ⌝ }
     ensures near { λ r. ⌜ r ≤ at + 1 ⌝ }
@@ -63,7 +63,7 @@ pub struct Labels {
 
 impl Labels {
     // Where the guard of a label stands.
-    pub fn address(&self, t: Label) -> Address
+    pub(crate) fn address(&self, t: Label) -> Address
         ensures { λ r. ⌜ r .0 ≡ address-at (now (self .entry)) (t .0) ⌝ }
     {
         let t = t.0 as usize;
@@ -76,7 +76,7 @@ impl Labels {
 }
 
 // Goes through a thread's statements and notes where each label's guard stands.
-pub fn find_labels(text: &[Statement]) -> Labels
+pub(crate) fn find_labels(text: &[Statement]) -> Labels
     requires { ⌜ length (now text) ≤ 255 ⌝ }
     ensures value { λ r. ⌜ ((p : Program) (i t : ℕ) → address-at r t ≡ address-of p i (now (text .entry)) t) ⌝ }
     ensures near { λ r. ⌜ Near r ⌝ }

@@ -69,7 +69,11 @@ fn tally(counts: bool, d: u8) -> u8
 }
 
 // Thread `i` runs its section.
-pub fn call_section<V: Kind>(state: &mut SeqState, i: Thread, code: &[Instruction]) -> Section
+pub(crate) fn call_section<V: Kind>(
+    state: &mut SeqState,
+    i: Thread,
+    code: &[Instruction],
+) -> Section
     requires { ⌜ length (now code) ≤ 255 ⌝ }
     ensures { λ r. ⌜ with-state r (now (state .exit)) ≡ call meaning (i .0) (now (code .entry)) (now (state .entry)) ⌝ }
 {

@@ -30,7 +30,7 @@ pub struct SeqState {
 
 impl SeqState {
     // The state at the start of a run, from the initial codes of the cells.
-    pub fn start<V: Kind>(codes: &[u32]) -> SeqState
+    pub(crate) fn start<V: Kind>(codes: &[u32]) -> SeqState
         requires { ⌜ length (now codes) ≤ 16 ⌝ }
         ensures { λ r. ⌜ r ≡ begun meaning (now (codes .entry)) ⌝ }
     {

@@ -72,7 +72,7 @@ fn write_label(
 }
 
 // Thread `i`'s section.
-pub fn write_section(code: &mut Vec<Instruction>, table: &Table, i: Thread)
+pub(crate) fn write_section(code: &mut Vec<Instruction>, table: &Table, i: Thread)
     requires thread { ⌜ i .0 < 8 ⌝ }
     requires room { ⌜ Room 1936 (vec-cap (now code)) (vec-len (now code)) ⌝ }
     ensures items { λ _. ⌜ (All Low (own (view (now (table .entry))) (i .0)) → vec-items (now (code .exit)) ≡ take 1936 (vec-items (now (code .entry)) ++ section-code (view (now (table .entry))) (i .0))) ⌝ }
@@ -130,7 +130,7 @@ fn thread_at(table: &Table, q: u16) -> Thread
 }
 
 // The driver of so many rounds.
-pub fn write_driver(driver: &mut Vec<Instruction>, table: &Table, rounds: u8)
+pub(crate) fn write_driver(driver: &mut Vec<Instruction>, table: &Table, rounds: u8)
     requires { ⌜ Room 257 (vec-cap (now driver)) (vec-len (now driver)) ⌝ }
     ensures items { λ _. ⌜ vec-items (now (driver .exit)) ≡ take 257 (vec-items (now (driver .entry)) ++ driver-code (view (now (table .entry))) rounds) ⌝ }
     ensures room { λ _. ⌜ Room 257 (vec-cap (now (driver .exit))) (vec-len (now (driver .exit))) ⌝ }
