@@ -8,6 +8,7 @@ use Rattle.kinds.specs.Meaning.{Meaning}
 use Rattle.tables.specs.Program.{Program}
 use Rattle.reports.specs.declared.report.Report.{Report}
 use Rattle.reports.specs.Reports.{report}
+use Rattle.walks.specs.declared.outcome.Outcome.{Outcome}
 use Rattle.sequences.specs.declared.instruction.Instruction.{Instruction}
 use Rattle.sequences.specs.declared.sequence.Part.{Part}
 use Rattle.sequences.specs.declared.sequence.Sequence.{Sequence}
@@ -53,6 +54,9 @@ drives-so k s ns = drive-on k (instructions s) (codes-of s) ns
 -- the cells that a list of guesses leaves
 abbrev pub cells-left : {V : Type 0} → Meaning → Sequence V → List ℕ → List ℕ
 cells-left k s ns = own-cells (codes-of s) (drives-so k s ns .state)
+
+abbrev pub report-of : Outcome → ℕ → ℕ → Report
+report-of o n c = record { outcome = o; read = n; carried = c }
 
 abbrev pub reported : Driven → Report
 reported r = report (r .outcome) (r .counts)

@@ -7,7 +7,7 @@ ghost use Rattle.tables.specs.Program.{Program};
 ghost use Rattle.states.specs.Codes.{Lawful-codes};
 ghost use Rattle.sequences.specs.Codes.{Lawful-section};
 ghost use Rattle.sequences.specs.Drives.{drive-from, drive as drive-code};
-ghost use Rattle.sequences.specs.Sequences.{Holds, instructions, sections-of, codes-of, drives-so, cells-left, reported};
+ghost use Rattle.sequences.specs.Sequences.{Holds, instructions, sections-of, codes-of, drives-so, cells-left, report-of, reported};
 use crate::point::SeqPoint;
 use crate::sequence::Sequence;
 use kinds::Kind;
@@ -15,6 +15,18 @@ use records::refusal::Refusal;
 use reports::report::Report;
 use reports::report::asked;
 use walks::outcome::Outcome;
+
+// The report of a run that has read so many numbers.
+fn report(outcome: Outcome, read: usize, carried: u16) -> Report
+    requires { ⌜ read ≤ 64 ⌝ }
+    ensures { λ r. ⌜ r ≡ report-of outcome read carried ⌝ }
+{
+    Report {
+        outcome,
+        read: read as u8,
+        carried,
+    }
+}
 
 impl<V: Kind> Sequence<V> {
     // Reads numbers at a point until the run has ended or none is left, and notes each slot's count.
@@ -29,22 +41,14 @@ impl<V: Kind> Sequence<V> {
         let mut carried: u16 = 0;
         for j in 0..numbers.len() {
             if let Outcome::Ended(_) = outcome {
-                return Report {
-                    outcome,
-                    read: j as u8,
-                    carried,
-                };
+                return report(outcome, j, carried);
             }
             let turn = self.turn(at, numbers[j]);
             counts[j] = turn.count;
             carried += turn.count as u16;
             outcome = turn.outcome;
         }
-        Report {
-            outcome,
-            read: numbers.len() as u8,
-            carried,
-        }
+        report(outcome, numbers.len(), carried)
     }
 
     // `drive` once its questions have a yes.

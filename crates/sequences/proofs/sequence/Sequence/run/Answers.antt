@@ -1,4 +1,4 @@
-use mathlib.Core.Path.{_≡_, refl, subst}
+use mathlib.Core.Path.{_≡_, refl, subst, _∙_}
 use native.Mathlib.Omega.{arith}
 use Prim.Native.Nat.{_≤_}
 use lib.ListN.{length}
@@ -34,6 +34,7 @@ returns-in-Ended g c =
     let e = ends-early k s all ns (c .args .counts .now) (c .loop-j .j) (c .loop-j .counts) (c .loop-j .carried) (c .in-Ended .field-0) (c .loop-j .at) inv l in
     let o = c .in-Ended .is in
     let r = e .report in
+    let n = c .report .ensures in
     record { report = (cc); counts = e .counts; state = e .state }
 
 pub returns : need.returns
@@ -43,4 +44,4 @@ returns g c =
     let ns = c .args .numbers .now in
     let all = drive-from k s (c .args .start) (c .args .at .now) ns in
     let e = ends-late k s all ns (c .args .counts .now) (c .loop-j .j) (c .loop-j .counts) (c .loop-j .carried) (length ns) (c .loop-j .outcome) (c .loop-j .at) (c .loop-j .inv) (c .pre .room) (omega arith) (omega arith) in
-    record { report = e .report; counts = e .counts; state = e .state }
+    record { report = c .report-2 .ensures ∙ e .report; counts = e .counts; state = e .state }
