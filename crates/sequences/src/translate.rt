@@ -9,7 +9,7 @@ ghost use Rattle.tables.specs.Tables.{view};
 ghost use Rattle.tables.specs.WellFormed.{WellFormed};
 ghost use Rattle.sequences.specs.Code.{section as section-code};
 ghost use Rattle.sequences.specs.Sequences.{Holds, codes-of, guide-of, sections-of, parts-in, part-between};
-ghost use Rattle.sequences.specs.Writes.{Room, Translatable};
+ghost use Rattle.sequences.specs.Writes.{Translatable};
 use crate::instruction::Instruction;
 use crate::sequence::Part;
 use crate::sequence::Sequence;
