@@ -2,7 +2,6 @@
 use mathlib.Core.Path.{_≡_}
 use mathlib.Core.List.{List, _++_}
 use Prim.Native.Nat.{ℕ}
-use lib.ListN.{length, drop}
 use Rattle.std.specs.declared.result.Result.{Result}
 use Rattle.std.specs.declared.result.Result.the-variants.{Ok, Err}
 use Rattle.kinds.specs.Meaning.{Meaning}
@@ -27,6 +26,3 @@ Counted k f rounds b (Err (Call e)) = (question k f ≡ accepted) × (rounds-ask
 -- failed, cut and full, four bytes each
 abbrev pub twelve : Survey → List ℕ
 twelve s = four (s .failed) ++ (four (s .cut) ++ four (s .full))
-
-abbrev pub front : List ℕ → List ℕ → List ℕ
-front xs out = xs ++ drop (length xs) out

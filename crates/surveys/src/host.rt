@@ -2,7 +2,8 @@
 ghost use mathlib.Core.Path.{_≡_};
 ghost use lib.ListN.{length, drop};
 ghost use Prim.Native.Nat.{_≤_};
-ghost use Rattle.surveys.specs.Hosts.{Counted, twelve, front};
+ghost use Rattle.reports.specs.Reports.{front};
+ghost use Rattle.surveys.specs.Hosts.{Counted, twelve};
 use crate::setup::Problem;
 use crate::setup::machine_of;
 use crate::totals::Survey;
