@@ -18,7 +18,7 @@ const NO_MEMORY: u32 = 99;
 
 // The three calls, on a job that has made none yet or any.
 fn walk_file<V: Kind>(job: &mut Job<V>, file: &[u8], rounds: u32, b: u32) -> Result<Counts, Refusal>
-    ensures { (m : Model) → Keeps meaning job.old m → result ≡ counts_of meaning file.now rounds b }
+    ensures { (m : Model) → Keeps V.meaning job.old m → result ≡ counts_of V.meaning file.now rounds b }
 {
     if let Err(e) = job.load(file) {
         return Err(e.refusal);
@@ -36,7 +36,7 @@ fn walk_new<V: Kind>(
     rounds: u32,
     b: u32,
 ) -> Option<Result<Counts, Refusal>>
-    ensures { IfSome result (λ a. a ≡ counts_of meaning file.now rounds b) }
+    ensures { IfSome result (λ a. a ≡ counts_of V.meaning file.now rounds b) }
 {
     match Job::<V>::new(heap) {
         Ok(mut job) => Some(walk_file(&mut job, file, rounds, b)),

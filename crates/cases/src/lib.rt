@@ -1,4 +1,6 @@
 // Worked cases of the two small tables, proved of the definitions that the contracts cite.
+#![tactic(auto)]
+
 ghost use Rattle.std.specs.Prelude.{◌≡◌};
 ghost use Rattle.cases.specs.Drives.{Translated, DriveCases};
 ghost use Rattle.cases.specs.Plays.{PlayCases};

@@ -1,3 +1,5 @@
 // The sequential program as something to walk.
+#![tactic(auto)]
+
 pub mod machine;
 pub mod runner;

@@ -69,7 +69,7 @@ pub(crate) fn go_on<P: Copy, R: Runner<Point = P>>(
     r: &R,
     b: u32,
 ) -> Result<Counts, Refusal>
-    ensures { ready r.now → Tied (outcome r.now) (stands r.now) walk.old → Walked (outcome r.now) (stands r.now) walk.old b walk.new result }
+    ensures { R.ready r.now → Tied (R.outcome r.now) (R.stands r.now) walk.old → Walked (R.outcome r.now) (R.stands r.now) walk.old b walk.new result }
 {
     if let Err(e) = asked(walk, b) {
         return Err(e);

@@ -1,4 +1,6 @@
 // Kinds of value: what the 32-bit codes in a program's cells stand for.
+#![tactic(auto)]
+
 pub mod kind;
 pub mod truth;
 pub mod words;

@@ -1,4 +1,6 @@
 // Levels: the lowest two bits of a code.
+#![tactic(auto)]
+
 ghost use Rattle.levels.specs.Level.{level};
 ghost use Rattle.std.proofs.Common.{rules};
 

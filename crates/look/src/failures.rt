@@ -52,7 +52,7 @@ pub fn visit_some<V: Kind>(
     failures: &mut Failures,
 ) -> Result<Answer, AllocError>
     requires { visited walk.old.tally + b < 2 ^ 32 }
-    ensures { IfOk result (λ a. Ready meaning machine.now → Tied (λ ns. (plays meaning machine.now ns).outcome) (Follows meaning machine.now) walk.old → Surveyed meaning machine.now walk.new a) }
+    ensures { IfOk result (λ a. Ready V.meaning machine.now → Tied (λ ns. (plays V.meaning machine.now ns).outcome) (Follows V.meaning machine.now) walk.old → Surveyed V.meaning machine.now walk.new a) }
 {
     for _ in 0..b {
         match walk.visit(machine) {

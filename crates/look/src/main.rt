@@ -1,4 +1,6 @@
 // look: shows a program file, and plays one schedule on it or all of them.
+#![tactic(auto)]
+
 ghost use Rattle.std.specs.Prelude.{◌≡◌, ◌≤◌, true, length, is_ok};
 ghost use Rattle.look.specs.Looks.{Shown};
 ghost use Rattle.look.specs.Surveys.{outcomes};
@@ -56,7 +58,7 @@ fn play<'a, V: Kind>(
 
 // Visits all schedules, or as many as a walk may.
 fn survey<V: Kind>(rt: &HostRuntime, machine: &Machine<V>, most: usize) -> anyhow::Result<()>
-    ensures { Ready meaning machine.now → Complete (outcomes meaning machine.now) (leaves (outcomes meaning machine.now)) }
+    ensures { Ready V.meaning machine.now → Complete (outcomes V.meaning machine.now) (leaves (outcomes V.meaning machine.now)) }
 {
     let heap = rt.alloc();
     let mut walk = Walk::begin(machine);
@@ -95,7 +97,7 @@ fn look<V: Kind>(
     file: &[u8],
     request: &Request,
 ) -> anyhow::Result<()>
-    ensures { is_ok result ≡ true → Shown meaning file.now request.now.rounds request.now.task }
+    ensures { is_ok result ≡ true → Shown V.meaning file.now request.now.rounds request.now.task }
 {
     let machine = match machine_of::<V>(rt.alloc(), file, request.rounds) {
         Ok(machine) => machine,

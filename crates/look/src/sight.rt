@@ -18,7 +18,7 @@ pub struct Run {
 
 // A schedule played on a machine.
 pub fn run_of<V: Kind>(machine: &Machine<V>, numbers: &[u8]) -> Result<Run, Refusal>
-    ensures { result ≡ run_answer meaning (program machine.now) machine.now.rounds numbers.now }
+    ensures { result ≡ run_answer V.meaning (program machine.now) machine.now.rounds numbers.now }
 {
     let mut counts = [0; 64];
     let mut cells = [0; 16];

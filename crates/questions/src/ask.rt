@@ -1,7 +1,7 @@
 // The questions on one record, in their order: the first no refuses.
 ghost use Rattle.std.specs.Prelude.{◌≡◌, length};
 ghost use Rattle.records.specs.Lines.{seen, body as behind};
-ghost use Rattle.questions.specs.Asks.{ask_header, ask_cell, ask_thread, ask_fields, ask_known, ask_statement, ask as asked, exists as there, target as aimed, named as created-before};
+ghost use Rattle.questions.specs.Asks.{ask_header, ask_cell, ask_thread, ask_fields, ask_known, ask_statement, ask as asked, exists as there, target as aimed, named as created_before};
 
 use crate::context::{Context, Due};
 use kinds::Kind;
@@ -12,7 +12,7 @@ use records::statement::{Place, Statement, Thread};
 
 fn header<V: Kind>(body: &[u8]) -> Result<(), RecordError>
     requires { length body.now ≡ 8 }
-    ensures { result ≡ ask_header meaning body.now }
+    ensures { result ≡ ask_header V.meaning body.now }
 {
     require(body[0] == V::kind_byte(), Refusal::KindByte, 2)?;
     require(body[1] <= 16, Refusal::Counts, 3)?;
@@ -32,7 +32,7 @@ fn header<V: Kind>(body: &[u8]) -> Result<(), RecordError>
 // The cell that has to have the index `i`.
 fn cell<V: Kind>(i: u8, body: &[u8]) -> Result<(), RecordError>
     requires { length body.now ≡ 8 }
-    ensures { result ≡ ask_cell meaning i body.now }
+    ensures { result ≡ ask_cell V.meaning i body.now }
 {
     require(body[0] == i, Refusal::Index, 2)?;
     unused(
@@ -79,7 +79,7 @@ impl Context {
 
     // Has an earlier CREATE named the thread?
     fn named(&self, j: Thread) -> bool
-        ensures { result ≡ created-before self.now j.0 }
+        ensures { result ≡ created_before self.now j.0 }
     {
         let at = j.0 as usize;
         if at < 8 { self.created[at] } else { false }
@@ -95,7 +95,7 @@ impl Context {
     // The fields of the statement numbered `n`.
     fn fields<V: Kind>(&self, n: u8, body: &[u8], s: Statement) -> Result<(), RecordError>
         requires { length body.now ≡ 8 }
-        ensures { result ≡ ask_fields meaning self.now n body.now s }
+        ensures { result ≡ ask_fields V.meaning self.now n body.now s }
     {
         match s {
             Statement::Set { d, c } => {
@@ -137,7 +137,7 @@ impl Context {
     // The questions on a statement whose op is known.
     fn known<V: Kind>(&self, n: u8, body: &[u8]) -> Result<(), RecordError>
         requires { length body.now ≡ 8 }
-        ensures { result ≡ ask_known meaning self.now n body.now }
+        ensures { result ≡ ask_known V.meaning self.now n body.now }
     {
         unused(body, fields(body[0]))?;
         self.fields::<V>(n, body, statement(body))
@@ -146,7 +146,7 @@ impl Context {
     // The questions on the statement numbered `n`.
     fn statement<V: Kind>(&self, n: u8, body: &[u8]) -> Result<(), RecordError>
         requires { length body.now ≡ 8 }
-        ensures { result ≡ ask_statement meaning self.now n body.now }
+        ensures { result ≡ ask_statement V.meaning self.now n body.now }
     {
         require(1 <= body[0] && body[0] <= 16, Refusal::Operation, 2)?;
         self.known::<V>(n, body)
@@ -155,7 +155,7 @@ impl Context {
     // The questions on a record: is it the one due, and then its own.
     pub fn ask<V: Kind>(&self, r: Record) -> Result<(), RecordError>
         requires { length (behind (seen r)) ≡ 8 }
-        ensures { result ≡ asked meaning self.now (seen r.entry) }
+        ensures { result ≡ asked V.meaning self.now (seen r.entry) }
     {
         match (self.due, r) {
             (Due::Header, Record::Pg(_, body)) => header::<V>(body),

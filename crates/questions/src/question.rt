@@ -26,7 +26,7 @@ fn unknown(x: &Context) -> RecordError
 fn step<V: Kind>(x: &Context, file: &[u8], i: usize) -> Result<Context, RecordError>
     requires there { i < length file.now / 10 }
     requires sound { Sound x.now }
-    ensures { MatchResult result (λ y. (asked_of meaning x.now (line file.now i) ≡ fine) × (y ≡ passed x.now (line file.now i)) × Sound y) (λ p. asked_of meaning x.now (line file.now i) ≡ bad p.refusal p.byte) }
+    ensures { MatchResult result (λ y. (asked_of V.meaning x.now (line file.now i) ≡ fine) × (y ≡ passed x.now (line file.now i)) × Sound y) (λ p. asked_of V.meaning x.now (line file.now i) ≡ bad p.refusal p.byte) }
 {
     let Some(r) = record_at(file, i) else {
         return Err(unknown(x));
@@ -51,7 +51,7 @@ fn end(x: &Context, n: usize) -> Result<(), LoadError>
 
 // Is the file one that Load accepts?
 pub fn question<V: Kind>(file: &[u8]) -> Result<(), LoadError>
-    ensures { result ≡ asked meaning file.now }
+    ensures { result ≡ asked V.meaning file.now }
 {
     if file.len() < 30 || file.len() > 4090 || file.len() % 10 != 0 {
         return Err(LoadError {

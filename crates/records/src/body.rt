@@ -1,6 +1,6 @@
 // The body of a record: the eight bytes behind its mark.
 ghost use Rattle.std.specs.Prelude.{◌≡◌, length};
-ghost use Rattle.records.specs.Bodies.{c as word_of, unused as blanks, fields as used-by, place_at, stores, tests, controls, statement as said};
+ghost use Rattle.records.specs.Bodies.{c as word_of, unused as blanks, fields as used_by, place_at, stores, tests, controls, statement as said};
 
 use crate::refusal::{RecordError, Refusal, require};
 use crate::statement::{Label, Mutex, Place, Statement, Thread};
@@ -38,7 +38,7 @@ pub fn unused(body: &[u8], used: Used) -> Result<(), RecordError>
 
 // The fields that the statement of an op uses.
 pub fn fields(op: u8) -> Used
-    ensures { result ≡ used-by op }
+    ensures { result ≡ used_by op }
 {
     Used {
         d: 1 <= op && op <= 6 || 11 <= op,

@@ -1,4 +1,6 @@
 // The records of a program file, and what each says.
+#![tactic(auto)]
+
 pub mod body;
 pub mod lookup;
 pub mod reader;

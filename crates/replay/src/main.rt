@@ -1,4 +1,6 @@
 // replay: answers a script of calls, a line each.
+#![tactic(auto)]
+
 use crate::answer::Answer;
 use crate::call::Line;
 use crate::desk::Desk;

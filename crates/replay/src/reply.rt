@@ -18,7 +18,7 @@ impl<V: Kind> Session<V> {
         count_room: usize,
         cell_room: usize,
     ) -> Result<Answer, AllocError>
-        ensures { IfOk result (λ a. said a ≡ played_by meaning (held self.now) numbers.now count_room cell_room) }
+        ensures { IfOk result (λ a. said a ≡ played_by V.meaning (held self.now) numbers.now count_room cell_room) }
     {
         let mut counts = vec![in heap; 0; count_room]?;
         let mut cells = vec![in heap; 0; cell_room]?;
@@ -38,7 +38,7 @@ impl<V: Kind> Session<V> {
 
     // The program's file, with a buffer of this length.
     fn saved(&self, heap: Global, room: usize) -> Result<Answer, AllocError>
-        ensures { IfOk result (λ a. said a ≡ saved_by meaning (held self.now) room) }
+        ensures { IfOk result (λ a. said a ≡ saved_by V.meaning (held self.now) room) }
     {
         let mut file = vec![in heap; 0; room]?;
         match self.save(file.as_mut_slice()) {
@@ -51,8 +51,8 @@ impl<V: Kind> Session<V> {
     }
 
     pub fn reply(&mut self, heap: Global, call: &Call) -> Result<Answer, AllocError>
-        ensures answer { IfOk result (λ a. said a ≡ reply meaning (held self.old) call.now) }
-        ensures after { held self.new ≡ next meaning (held self.old) call.now }
+        ensures answer { IfOk result (λ a. said a ≡ reply V.meaning (held self.old) call.now) }
+        ensures after { held self.new ≡ next V.meaning (held self.old) call.now }
     {
         match call {
             Call::Load(file) => match self.load(file.as_slice()) {

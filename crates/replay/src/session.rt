@@ -8,7 +8,7 @@ ghost use Rattle.threads.specs.Machines.{program, plays, cells_left};
 ghost use Rattle.reports.specs.Reports.{front, refusal, answered, unless};
 ghost use Rattle.threads.specs.Reports.{reported};
 ghost use Rattle.replay.specs.Sessions.{held, holds, empty, settled, wants_program, wants_translated, else, first_no, translate_answer};
-ghost use Rattle.replay.specs.declared.session.Stage.TheVariants.{Loaded as loaded-stage, Translated as translated-stage};
+ghost use Rattle.replay.specs.declared.session.Stage.TheVariants.{Loaded as loaded_stage, Translated as translated_stage};
 
 use kinds::Kind;
 use records::refusal::{LoadError, Refusal};
@@ -57,8 +57,8 @@ impl<V: Kind> Session<V> {
 
     // Takes the program of a file. A refused file changes nothing.
     pub fn load(&mut self, file: &[u8]) -> Result<(), LoadError>
-        ensures answer { result ≡ question meaning file.now }
-        ensures after { held self.new ≡ settled result (holds loaded-stage (decoded file.now) self.old.machine.rounds) (held self.old) }
+        ensures answer { result ≡ question V.meaning file.now }
+        ensures after { held self.new ≡ settled result (holds loaded_stage (decoded file.now) self.old.machine.rounds) (held self.old) }
     {
         self.machine.table.load::<V>(file)?;
         self.stage = Stage::Loaded;
@@ -68,7 +68,7 @@ impl<V: Kind> Session<V> {
     // Sets the number of rounds.
     pub fn translate(&mut self, rounds: u32) -> Result<(), Refusal>
         ensures answer { result ≡ translate_answer self.old.stage rounds }
-        ensures after { held self.new ≡ settled result (holds translated-stage (program self.old.machine) rounds) (held self.old) }
+        ensures after { held self.new ≡ settled result (holds translated_stage (program self.old.machine) rounds) (held self.old) }
     {
         if let Stage::Empty = self.stage {
             return Err(Refusal::NotLoaded);
@@ -86,9 +86,9 @@ impl<V: Kind> Session<V> {
         counts: &mut [u8],
         cells: &mut [u32],
     ) -> Result<Report, Refusal>
-        ensures answer { result ≡ answered (first_no (wants_translated self.now.stage) (refusal numbers.now counts.old cells.old (length (program self.now.machine).cells))) (reported (plays meaning self.now.machine numbers.now)) }
-        ensures counts { counts.new ≡ unless (first_no (wants_translated self.now.stage) (refusal numbers.now counts.old cells.old (length (program self.now.machine).cells))) (front (plays meaning self.now.machine numbers.now).counts counts.old) counts.old }
-        ensures cells { cells.new ≡ unless (first_no (wants_translated self.now.stage) (refusal numbers.now counts.old cells.old (length (program self.now.machine).cells))) (front (cells_left meaning self.now.machine numbers.now) cells.old) cells.old }
+        ensures answer { result ≡ answered (first_no (wants_translated self.now.stage) (refusal numbers.now counts.old cells.old (length (program self.now.machine).cells))) (reported (plays V.meaning self.now.machine numbers.now)) }
+        ensures counts { counts.new ≡ unless (first_no (wants_translated self.now.stage) (refusal numbers.now counts.old cells.old (length (program self.now.machine).cells))) (front (plays V.meaning self.now.machine numbers.now).counts counts.old) counts.old }
+        ensures cells { cells.new ≡ unless (first_no (wants_translated self.now.stage) (refusal numbers.now counts.old cells.old (length (program self.now.machine).cells))) (front (cells_left V.meaning self.now.machine numbers.now) cells.old) cells.old }
     {
         match self.stage {
             Stage::Translated => self.machine.play(numbers, counts, cells),
@@ -98,8 +98,8 @@ impl<V: Kind> Session<V> {
 
     // Writes the program's file.
     pub fn save(&self, out: &mut [u8]) -> Result<usize, Refusal>
-        ensures answer { result ≡ else (wants_program self.now.stage) (counted out.old (encoded meaning.byte (program self.now.machine))) }
-        ensures after { out.new ≡ unless (wants_program self.now.stage) (filled out.old (encoded meaning.byte (program self.now.machine))) out.old }
+        ensures answer { result ≡ else (wants_program self.now.stage) (counted out.old (encoded V.meaning.byte (program self.now.machine))) }
+        ensures after { out.new ≡ unless (wants_program self.now.stage) (filled out.old (encoded V.meaning.byte (program self.now.machine))) out.old }
     {
         match self.stage {
             Stage::Empty => Err(Refusal::NotLoaded),

@@ -50,7 +50,7 @@ impl<V: Kind> Session<V> {
 
     // Visits the next `b` schedules, or those left, and answers what was counted since the translation.
     pub fn survey_on(&mut self, b: u32) -> Result<Counts, Refusal>
-        ensures says { Surveyed meaning self.old self.new b result }
+        ensures says { Surveyed V.meaning self.old self.new b result }
         ensures held { held self.new ≡ held self.old }
     {
         if let Err(refusal) = self.asked(b) {

@@ -1,2 +1,4 @@
 // What a run over a list of numbers reports, and the questions before it.
+#![tactic(auto)]
+
 pub mod report;

@@ -82,8 +82,8 @@ fn file_len<V: Kind>(table: &Table, sequence: &Sequence<V>) -> usize
 
 // Writes the file to a buffer that is long enough.
 fn write<V: Kind>(table: &Table, rounds: u8, sequence: &Sequence<V>, out: &mut [u8])
-    requires { length (emitted_by meaning.byte (view table.now) rounds sequence.now) ≤ length out.old }
-    ensures { out.new ≡ wrote out.old 0 (emitted_by meaning.byte (view table.now) rounds sequence.now) }
+    requires { length (emitted_by V.meaning.byte (view table.now) rounds sequence.now) ≤ length out.old }
+    ensures { out.new ≡ wrote out.old 0 (emitted_by V.meaning.byte (view table.now) rounds sequence.now) }
 {
     let cells = put(out, 0, program_row::<V>(table, rounds));
     let driver = table.save_cells(out, cells);
@@ -98,10 +98,10 @@ pub fn emit<V: Kind>(
     sequence: &Sequence<V>,
     out: &mut [u8],
 ) -> Result<usize, Refusal>
-    ensures answer { result ≡ counted out.old (emitted_by meaning.byte (view table.now) rounds sequence.now) }
-    ensures after { out.new ≡ filled out.old (emitted_by meaning.byte (view table.now) rounds sequence.now) }
-    ensures translated { Holds sequence.now (view table.now) rounds → emitted_by meaning.byte (view table.now) rounds sequence.now ≡ emitted meaning.byte (view table.now) rounds }
-    ensures few { WellFormed meaning (view table.now) → rounds ≤ 8 → length (emitted meaning.byte (view table.now) rounds) ≤ 22110 }
+    ensures answer { result ≡ counted out.old (emitted_by V.meaning.byte (view table.now) rounds sequence.now) }
+    ensures after { out.new ≡ filled out.old (emitted_by V.meaning.byte (view table.now) rounds sequence.now) }
+    ensures translated { Holds sequence.now (view table.now) rounds → emitted_by V.meaning.byte (view table.now) rounds sequence.now ≡ emitted V.meaning.byte (view table.now) rounds }
+    ensures few { WellFormed V.meaning (view table.now) → rounds ≤ 8 → length (emitted V.meaning.byte (view table.now) rounds) ≤ 22110 }
 {
     let n = file_len(table, sequence);
     if out.len() < n {

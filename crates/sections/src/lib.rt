@@ -1,4 +1,6 @@
 // The file of a sequential program: the section writer, Emit, and Digits.
+#![tactic(auto)]
+
 pub mod digits;
 pub mod emit;
 pub mod owed;

@@ -58,7 +58,7 @@ pub fn section_row(owner: Owner, count: u32) -> [u8; 10]
 
 // The SQ record. The rounds are the highest byte of c.
 pub fn program_row<V: Kind>(table: &Table, rounds: u8) -> [u8; 10]
-    ensures { result ≡ program_row meaning.byte (view table.now) rounds }
+    ensures { result ≡ program_row V.meaning.byte (view table.now) rounds }
 {
     row(
         b'S',

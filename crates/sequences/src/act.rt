@@ -1,6 +1,6 @@
 // What an instruction of a section comes to in a state, before anything is changed.
 ghost use Rattle.std.specs.Prelude.{◌≡◌};
-ghost use Rattle.sequences.specs.Acts.{act as said-act, whole as is_whole, hopping};
+ghost use Rattle.sequences.specs.Acts.{act as said_act, whole as is_whole, hopping};
 
 use crate::instruction::{Address, Instruction, Word};
 use crate::state::{STOP_AT, SeqState, saved};
@@ -39,7 +39,7 @@ fn hop(state: &SeqState, j: Thread, t: Label, to: Address) -> Act
 
 // What an instruction in thread `i`'s section comes to.
 pub(crate) fn act_of<V: Kind>(state: &SeqState, i: Thread, instruction: Instruction) -> Act
-    ensures { result ≡ said-act meaning i.0 state.now instruction }
+    ensures { result ≡ said_act V.meaning i.0 state.now instruction }
 {
     match instruction {
         Instruction::Set { d, c } => Act::Write(d, c),

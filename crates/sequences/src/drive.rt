@@ -1,10 +1,10 @@
 // The run of the driver: from guess to guess.
 ghost use Rattle.std.specs.Prelude.{◌≡◌, ◌<◌, ◌≤◌, true, length, drop, is_some};
-ghost use Rattle.sequences.specs.Acts.{call as called-so};
+ghost use Rattle.sequences.specs.Acts.{call as called_so};
 ghost use Rattle.sequences.specs.Drives.{move, move_of, first_move, proceeds, guessed, turn as turned_so};
 ghost use Rattle.sequences.specs.Passages.{with_state};
 ghost use Rattle.sequences.specs.Sequences.{sections_of, guide_of, instructions, starts};
-ghost use Rattle.sequences.specs.Strides.{strode, entered, stride as strides-so, with_point};
+ghost use Rattle.sequences.specs.Strides.{strode, entered, stride as strides_so, with_point};
 
 use crate::instruction::{Address, Instruction};
 use crate::point::SeqPoint;
@@ -65,7 +65,7 @@ impl<V: Kind> Sequence<V> {
     // Thread `i`'s section, called at a point.
     fn enter(&self, at: &mut SeqPoint, i: Thread) -> Stride
         requires { at.old.at.0 < 257 }
-        ensures { strode result at.new ≡ entered at.old.at.0 (called-so meaning i.0 (sections_of self.now i.0) at.old.state) (called-so meaning i.0 (sections_of self.now i.0) at.old.state).end }
+        ensures { strode result at.new ≡ entered at.old.at.0 (called_so V.meaning i.0 (sections_of self.now i.0) at.old.state) (called_so V.meaning i.0 (sections_of self.now i.0) at.old.state).end }
     {
         let section = call_section::<V>(&mut at.state, i, self.section(i));
         match section.end {
@@ -81,7 +81,7 @@ impl<V: Kind> Sequence<V> {
     // One instruction of the driver at a point.
     fn obey(&self, at: &mut SeqPoint, count: u8, instruction: Instruction) -> Stride
         requires { at.old.at.0 < 257 }
-        ensures { strode result at.new ≡ strides-so meaning (sections_of self.now) at.old.at.0 count at.old.state (move instruction) }
+        ensures { strode result at.new ≡ strides_so V.meaning (sections_of self.now) at.old.at.0 count at.old.state (move instruction) }
     {
         let behind = Address(at.at.0 + 1);
         match instruction {
@@ -111,7 +111,7 @@ impl<V: Kind> Sequence<V> {
 
     // The driver's instruction at a point; where there is none, the run is cut.
     fn stride(&self, at: &mut SeqPoint, count: u8) -> Stride
-        ensures { strode result at.new ≡ strides-so meaning (sections_of self.now) at.old.at.0 count at.old.state (first_move (drop at.old.at.0 (guide_of self.now))) }
+        ensures { strode result at.new ≡ strides_so V.meaning (sections_of self.now) at.old.at.0 count at.old.state (first_move (drop at.old.at.0 (guide_of self.now))) }
     {
         match self.next(at.at) {
             Some(instruction) => self.obey(at, count, instruction),
@@ -121,7 +121,7 @@ impl<V: Kind> Sequence<V> {
 
     // From a point to the next GUESS, or to the end.
     fn proceed(&self, at: &mut SeqPoint) -> SeqTurn
-        ensures { with_point result at.new ≡ proceeds meaning (instructions self.now) at.old.at.0 at.old.state }
+        ensures { with_point result at.new ≡ proceeds V.meaning (instructions self.now) at.old.at.0 at.old.state }
     {
         let mut count = 0;
         for _step in 0..self.driver.len() {
@@ -139,7 +139,7 @@ impl<V: Kind> Sequence<V> {
     // The number read by GUESS `i n` at a point.
     fn guess(&self, at: &mut SeqPoint, i: Thread, n: u8, number: u8) -> SeqTurn
         requires { at.old.at.0 < 257 }
-        ensures { with_point result at.new ≡ guessed meaning (instructions self.now) at.old.at.0 i.0 n number at.old.state }
+        ensures { with_point result at.new ≡ guessed V.meaning (instructions self.now) at.old.at.0 i.0 n number at.old.state }
     {
         let label = at.state.word(saved(i));
         if number > n.saturating_sub(label) {
@@ -155,7 +155,7 @@ impl<V: Kind> Sequence<V> {
 
     // Goes on from a point by one number; where no GUESS waits, the run is cut.
     pub fn turn(&self, at: &mut SeqPoint, number: u8) -> SeqTurn
-        ensures { with_point result at.new ≡ turned_so meaning (instructions self.now) at.old number }
+        ensures { with_point result at.new ≡ turned_so V.meaning (instructions self.now) at.old number }
     {
         match self.next(at.at) {
             Some(Instruction::Guess { i, n }) => self.guess(at, i, n, number),
@@ -168,8 +168,8 @@ impl<V: Kind> Sequence<V> {
 
     // How a run stands before its first number, and where.
     pub fn first(&self) -> (Outcome, SeqPoint)
-        ensures outcome { result.0 ≡ (starts meaning self.now).outcome }
-        ensures point { result.1 ≡ (starts meaning self.now).point }
+        ensures outcome { result.0 ≡ (starts V.meaning self.now).outcome }
+        ensures point { result.1 ≡ (starts V.meaning self.now).point }
     {
         let mut at = SeqPoint {
             at: Address(0),

@@ -4,7 +4,7 @@ ghost use Rattle.reports.specs.Reports.{front, refusal, answered, unless};
 ghost use Rattle.tables.specs.Program.{Program};
 ghost use Rattle.states.specs.Codes.{LawfulCodes};
 ghost use Rattle.sequences.specs.Codes.{LawfulSection};
-ghost use Rattle.sequences.specs.Drives.{drive_from, drive as drive-code};
+ghost use Rattle.sequences.specs.Drives.{drive_from, drive as drive_code};
 ghost use Rattle.sequences.specs.Sequences.{Holds, instructions, sections_of, codes_of, drives_so, cells_left, report_of, reported};
 
 use crate::point::SeqPoint;
@@ -31,9 +31,9 @@ impl<V: Kind> Sequence<V> {
     fn run(&self, at: &mut SeqPoint, start: Outcome, numbers: &[u8], counts: &mut [u8]) -> Report
         requires few { length numbers.now ≤ 64 }
         requires room { length numbers.now ≤ length counts.old }
-        ensures report { result ≡ reported (drive_from meaning (instructions self.now) start at.old numbers.now) }
-        ensures counts { counts.new ≡ front (drive_from meaning (instructions self.now) start at.old numbers.now).counts counts.old }
-        ensures state { at.new.state ≡ (drive_from meaning (instructions self.now) start at.old numbers.now).state }
+        ensures report { result ≡ reported (drive_from V.meaning (instructions self.now) start at.old numbers.now) }
+        ensures counts { counts.new ≡ front (drive_from V.meaning (instructions self.now) start at.old numbers.now).counts counts.old }
+        ensures state { at.new.state ≡ (drive_from V.meaning (instructions self.now) start at.old numbers.now).state }
     {
         let mut outcome = start;
         let mut carried: u16 = 0;
@@ -54,9 +54,9 @@ impl<V: Kind> Sequence<V> {
         requires few { length numbers.now ≤ 64 }
         requires room { length numbers.now ≤ length counts.old }
         requires cells { length (codes_of self.now) ≤ length cells.old }
-        ensures report { result ≡ reported (drives_so meaning self.now numbers.now) }
-        ensures counts { counts.new ≡ front (drives_so meaning self.now numbers.now).counts counts.old }
-        ensures cells { cells.new ≡ front (cells_left meaning self.now numbers.now) cells.old }
+        ensures report { result ≡ reported (drives_so V.meaning self.now numbers.now) }
+        ensures counts { counts.new ≡ front (drives_so V.meaning self.now numbers.now).counts counts.old }
+        ensures cells { cells.new ≡ front (cells_left V.meaning self.now numbers.now) cells.old }
     {
         let (outcome, mut at) = self.first();
         let report = self.run(&mut at, outcome, numbers, counts);
@@ -73,11 +73,11 @@ impl<V: Kind> Sequence<V> {
         counts: &mut [u8],
         cells: &mut [u32],
     ) -> Result<Report, Refusal>
-        ensures answer { result ≡ answered (refusal numbers.now counts.old cells.old (length (codes_of self.now))) (reported (drives_so meaning self.now numbers.now)) }
-        ensures counts { counts.new ≡ unless (refusal numbers.now counts.old cells.old (length (codes_of self.now))) (front (drives_so meaning self.now numbers.now).counts counts.old) counts.old }
-        ensures cells { cells.new ≡ unless (refusal numbers.now counts.old cells.old (length (codes_of self.now))) (front (cells_left meaning self.now numbers.now) cells.old) cells.old }
-        ensures translated { (p : Program) (rounds : ℕ) → Holds self.now p rounds → drives_so meaning self.now numbers.now ≡ drive-code meaning p rounds numbers.now }
-        ensures lawful { LawfulCodes meaning (codes_of self.now) → ((i : ℕ) → LawfulSection meaning (sections_of self.now i)) → LawfulCodes meaning (cells_left meaning self.now numbers.now) }
+        ensures answer { result ≡ answered (refusal numbers.now counts.old cells.old (length (codes_of self.now))) (reported (drives_so V.meaning self.now numbers.now)) }
+        ensures counts { counts.new ≡ unless (refusal numbers.now counts.old cells.old (length (codes_of self.now))) (front (drives_so V.meaning self.now numbers.now).counts counts.old) counts.old }
+        ensures cells { cells.new ≡ unless (refusal numbers.now counts.old cells.old (length (codes_of self.now))) (front (cells_left V.meaning self.now numbers.now) cells.old) cells.old }
+        ensures translated { (p : Program) (rounds : ℕ) → Holds self.now p rounds → drives_so V.meaning self.now numbers.now ≡ drive_code V.meaning p rounds numbers.now }
+        ensures lawful { LawfulCodes V.meaning (codes_of self.now) → ((i : ℕ) → LawfulSection V.meaning (sections_of self.now i)) → LawfulCodes V.meaning (cells_left V.meaning self.now numbers.now) }
     {
         match asked(numbers, counts, cells, self.cells.len()) {
             Err(refusal) => Err(refusal),

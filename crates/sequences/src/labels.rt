@@ -1,15 +1,15 @@
 // Where the labels of a thread's section stand.
 ghost use Rattle.std.specs.Prelude.{◌≡◌, ℕ, ◌+◌, ◌^◌, ◌<◌, ◌≤◌, length};
 ghost use Rattle.tables.specs.Program.{Program};
-ghost use Rattle.sequences.specs.Code.{names as names-label, guarded as is-guarded, address_of};
-ghost use Rattle.sequences.specs.Writes.{width as width_of_lem, beyond, address_at, Near};
+ghost use Rattle.sequences.specs.Code.{names as names_label, guarded as is_guarded, address_of};
+ghost use Rattle.sequences.specs.Writes.{width as width_of, beyond, address_at, Near};
 
 use crate::instruction::Address;
 use records::statement::{Label, Statement};
 
 // Whether a statement is a jump to the label `t`.
 fn names(x: Statement, t: u8) -> bool
-    ensures { result ≡ names-label t x }
+    ensures { result ≡ names_label t x }
 {
     match x {
         Statement::Jump { t: u } => u.0 == t,
@@ -20,7 +20,7 @@ fn names(x: Statement, t: u8) -> bool
 
 // Whether the label `t` has a guard: some jump of the thread names it.
 pub(crate) fn guarded(text: &[Statement], t: u8) -> bool
-    ensures { result ≡ is-guarded text.now t }
+    ensures { result ≡ is_guarded text.now t }
 {
     for j in 0..text.len() {
         if names(text[j], t) {
@@ -32,7 +32,7 @@ pub(crate) fn guarded(text: &[Statement], t: u8) -> bool
 
 // How many instructions a statement has.
 pub(crate) fn width(x: Statement) -> u16
-    ensures value { result ≡ width_of_lem x }
+    ensures value { result ≡ width_of x }
     ensures few { result ≤ 3 }
 {
     match x {
@@ -45,7 +45,7 @@ pub(crate) fn width(x: Statement) -> u16
 // The address behind the guard that a label may have at an address.
 pub(crate) fn behind_guard(text: &[Statement], t: u8, at: u16) -> u16
     requires { at < 2 ^ 15 }
-    ensures value { result ≡ beyond (is-guarded text.now t) at }
+    ensures value { result ≡ beyond (is_guarded text.now t) at }
     ensures near { result ≤ at + 1 }
 {
     if guarded(text, t) { at + 1 } else { at }

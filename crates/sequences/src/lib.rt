@@ -1,4 +1,6 @@
 // The sequential program of a table: its instructions, the translation, and the machine that runs it.
+#![tactic(auto)]
+
 pub mod act;
 pub mod drive;
 mod emit;

@@ -73,7 +73,7 @@ pub(crate) fn call_section<V: Kind>(
     code: &[Instruction],
 ) -> Section
     requires { length code.now ≤ 255 }
-    ensures { with_state result state.new ≡ call meaning i.0 code.now state.old }
+    ensures { with_state result state.new ≡ call V.meaning i.0 code.now state.old }
 {
     let mut at = 0;
     let mut count = 0;

@@ -1,7 +1,7 @@
 // The state of the sequential program: plain numbers, and the cells.
 ghost use Rattle.std.specs.Prelude.{◌≡◌, ◌≤◌, length, slice_index_or, slice_set};
-ghost use Rattle.sequences.specs.States.{word as word_of, with_word, value as value_of_lem, put as put-by, locals_of, with_locals, begun};
-ghost use Rattle.sequences.specs.Words.{saved as saved-word};
+ghost use Rattle.sequences.specs.States.{word as word_of, with_word, value as value_of, put as put_by, locals_of, with_locals, begun};
+ghost use Rattle.sequences.specs.Words.{saved as saved_word};
 
 use kinds::Kind;
 use records::lookup::{item_or, set_item};
@@ -13,7 +13,7 @@ pub const STOP_AT: usize = 24;
 
 // The word that holds the label at which thread `i` stopped.
 pub fn saved(i: Thread) -> usize
-    ensures { result ≡ saved-word i.0 }
+    ensures { result ≡ saved_word i.0 }
 {
     8 + i.0 as usize
 }
@@ -29,7 +29,7 @@ impl SeqState {
     // The state at the start of a run, from the initial codes of the cells.
     pub(crate) fn start<V: Kind>(codes: &[u32]) -> SeqState
         requires { length codes.now ≤ 16 }
-        ensures { result ≡ begun meaning codes.now }
+        ensures { result ≡ begun V.meaning codes.now }
     {
         let mut words = [0; 25];
         words[0] = 1;
@@ -57,7 +57,7 @@ impl SeqState {
 
     // The code in local cell `n` of thread `i`, and the fresh code where there is none.
     fn local<V: Kind>(&self, i: Thread, n: u8) -> u32
-        ensures { result ≡ slice_index_or (locals_of self.now i.0) n meaning.fresh }
+        ensures { result ≡ slice_index_or (locals_of self.now i.0) n V.meaning.fresh }
     {
         if i.0 < 8 {
             item_or(&self.locals[i.0 as usize], n, V::fresh_code())
@@ -76,7 +76,7 @@ impl SeqState {
 
     // The code that thread `i` reads at a place.
     pub fn value<V: Kind>(&self, i: Thread, p: Place) -> u32
-        ensures { result ≡ value_of_lem meaning self.now i.0 p }
+        ensures { result ≡ value_of V.meaning self.now i.0 p }
     {
         match p {
             Place::Shared(n) => item_or(&self.cells, n, V::fresh_code()),
@@ -86,7 +86,7 @@ impl SeqState {
 
     // Thread `i` writes a code to a place.
     pub fn put(&mut self, i: Thread, p: Place, c: u32)
-        ensures { self.new ≡ put-by self.old i.0 p c }
+        ensures { self.new ≡ put_by self.old i.0 p c }
     {
         match p {
             Place::Shared(n) => set_item(&mut self.cells, n, c),

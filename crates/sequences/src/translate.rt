@@ -2,7 +2,7 @@
 ghost use Rattle.std.specs.Prelude.{◌≡◌, ℕ, ◌<◌, ◌≤◌, [], length, IfOk, vec_len, vec_capacity};
 ghost use Rattle.tables.specs.Tables.{view};
 ghost use Rattle.tables.specs.WellFormed.{WellFormed};
-ghost use Rattle.sequences.specs.Code.{section as section-code};
+ghost use Rattle.sequences.specs.Code.{section as section_code};
 ghost use Rattle.sequences.specs.Sequences.{Holds, codes_of, guide_of, sections_of, parts_in, part_between};
 ghost use Rattle.sequences.specs.Writes.{Translatable};
 
@@ -43,7 +43,7 @@ fn between(first: usize, end: usize) -> Part
 fn write_sections(sections: &mut Vec<Instruction>, parts: &mut Vec<Part>, table: &Table)
     requires sections { 1936 ≤ vec_capacity sections.old }
     requires parts { 8 ≤ vec_capacity parts.old }
-    ensures value { Translatable (view table.now) → (i : ℕ) → i < length (view table.now).texts → parts_in sections.new.items parts.new.items i ≡ section-code (view table.now) i }
+    ensures value { Translatable (view table.now) → (i : ℕ) → i < length (view table.now).texts → parts_in sections.new.items parts.new.items i ≡ section_code (view table.now) i }
     ensures sections { 1936 ≤ vec_capacity sections.new }
     ensures parts { 8 ≤ vec_capacity parts.new }
 {
@@ -77,7 +77,7 @@ impl<V: Kind> Sequence<V> {
     // The sequential program of a table over so many rounds, in the place of the old one.
     pub fn translate(&mut self, table: &Table, rounds: u8)
         ensures holds { Translatable (view table.now) → rounds ≤ 8 → Holds self.new (view table.now) rounds }
-        ensures well { WellFormed meaning (view table.now) → Translatable (view table.now) }
+        ensures well { WellFormed V.meaning (view table.now) → Translatable (view table.now) }
     {
         write_codes(&mut self.cells, table.cells());
         self.driver.clear();

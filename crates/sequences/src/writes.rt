@@ -4,7 +4,7 @@ ghost use Rattle.std.specs.List.{AllByRecursion as All};
 ghost use Rattle.tables.specs.Program.{own};
 ghost use Rattle.tables.specs.Slots.{slot_total};
 ghost use Rattle.tables.specs.Tables.{view};
-ghost use Rattle.sequences.specs.Code.{guards, guarded as is-guarded, section as section-code, driver as driver-code};
+ghost use Rattle.sequences.specs.Code.{guards, guarded as is_guarded, section as section_code, driver as driver_code};
 ghost use Rattle.sequences.specs.Writes.{Low, Near, Room, address_at, hop_code, label_code, slot_code};
 
 use crate::emit::{emit, emit_inner};
@@ -31,7 +31,7 @@ fn hop(text: &[Statement], labels: &Labels, i: Thread, l: u8) -> Instruction
 // The guard of a label, if it has one.
 fn write_guard(code: &mut Vec<Instruction>, text: &[Statement], t: u8)
     requires { Room 1936 (vec_capacity code.old) (vec_len code.old) }
-    ensures items { code.new.items ≡ take 1936 (code.old.items ++ guards (is-guarded text.now t) t) }
+    ensures items { code.new.items ≡ take 1936 (code.old.items ++ guards (is_guarded text.now t) t) }
     ensures room { Room 1936 (vec_capacity code.new) (vec_len code.new) }
 {
     if guarded(text, t) {
@@ -65,7 +65,7 @@ fn write_label(
 pub(crate) fn write_section(code: &mut Vec<Instruction>, table: &Table, i: Thread)
     requires thread { i.0 < 8 }
     requires room { Room 1936 (vec_capacity code.old) (vec_len code.old) }
-    ensures items { All Low (own (view table.now) i.0) → code.new.items ≡ take 1936 (code.old.items ++ section-code (view table.now) i.0) }
+    ensures items { All Low (own (view table.now) i.0) → code.new.items ≡ take 1936 (code.old.items ++ section_code (view table.now) i.0) }
     ensures room { Room 1936 (vec_capacity code.new) (vec_len code.new) }
 {
     let text = table.statements_of(i);
@@ -122,7 +122,7 @@ fn thread_at(table: &Table, q: u16) -> Thread
 // The driver of so many rounds.
 pub(crate) fn write_driver(driver: &mut Vec<Instruction>, table: &Table, rounds: u8)
     requires { Room 257 (vec_capacity driver.old) (vec_len driver.old) }
-    ensures items { driver.new.items ≡ take 257 (driver.old.items ++ driver-code (view table.now) rounds) }
+    ensures items { driver.new.items ≡ take 257 (driver.old.items ++ driver_code (view table.now) rounds) }
     ensures room { Room 257 (vec_capacity driver.new) (vec_len driver.new) }
 {
     for q in 0..slots(table, rounds) {

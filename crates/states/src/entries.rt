@@ -31,7 +31,7 @@ fn create_in(entries: &mut [ThreadEntry], j: Thread)
 impl ThreadTable {
     // At the start of a run only thread 0 is created.
     pub fn start<V: Kind>() -> ThreadTable
-        ensures { result.entries ≡ started meaning }
+        ensures { result.entries ≡ started V.meaning }
     {
         let asleep = ThreadEntry {
             label: Label(0),
@@ -62,7 +62,7 @@ impl ThreadTable {
     // The code in local cell `n` of thread `i`, and the fresh code where there is none.
     pub fn local<V: Kind>(&self, i: Thread, n: u8) -> u32
         requires { i.0 < 8 }
-        ensures { result ≡ local_in meaning (entry_of self.now.entries i.0) n }
+        ensures { result ≡ local_in V.meaning (entry_of self.now.entries i.0) n }
     {
         item_or(&self.entries[i.0 as usize].locals, n, V::fresh_code())
     }

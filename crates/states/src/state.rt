@@ -27,7 +27,7 @@ pub struct State {
 // The initial codes, and the fresh code in the cells that the program does not have.
 pub fn initial_cells<V: Kind>(codes: &[u32]) -> [u32; 16]
     requires { length codes.now ≤ 16 }
-    ensures { result ≡ padded meaning codes.now }
+    ensures { result ≡ padded V.meaning codes.now }
 {
     let mut cells = [V::fresh_code(); 16];
     cells[0..codes.len()].copy_from_slice(codes);
@@ -37,7 +37,7 @@ pub fn initial_cells<V: Kind>(codes: &[u32]) -> [u32; 16]
 impl State {
     // The state at the start of a run.
     pub fn start<V: Kind>(table: &Table) -> State
-        ensures { result ≡ beginning meaning (view table.now) }
+        ensures { result ≡ beginning V.meaning (view table.now) }
     {
         State {
             cells: initial_cells::<V>(table.cells()),
@@ -49,7 +49,7 @@ impl State {
     // The code that thread `i` reads at a place.
     pub fn value<V: Kind>(&self, i: Thread, p: Place) -> u32
         requires { i.0 < 8 }
-        ensures { result ≡ value meaning self.now i.0 p }
+        ensures { result ≡ value V.meaning self.now i.0 p }
     {
         match p {
             Place::Shared(n) => item_or(&self.cells, n, V::fresh_code()),

@@ -14,7 +14,7 @@ const NO_MEMORY: u32 = 99;
 
 // The totals of a file's schedules.
 fn counted<V: Kind>(heap: Global, file: &[u8], rounds: u32, b: u32) -> Result<Survey, Problem>
-    ensures { Counted meaning file.now rounds b result }
+    ensures { Counted V.meaning file.now rounds b result }
 {
     match machine_of::<V>(heap, file, rounds) {
         Ok(machine) => Ok(totals(&machine, b)),

@@ -17,7 +17,7 @@ pub enum Problem {
 
 // The machine on the program of a file.
 pub fn machine_of<V: Kind>(heap: Global, file: &[u8], rounds: u32) -> Result<Machine<V>, Problem>
-    ensures { Made meaning file.now rounds result }
+    ensures { Made V.meaning file.now rounds result }
 {
     let Ok(mut table) = Table::new(heap) else {
         return Err(Problem::Memory);

@@ -19,7 +19,7 @@ pub struct Survey {
 
 // Visits the first `b` schedules, or all.
 pub fn totals<V: Kind>(machine: &Machine<V>, b: u32) -> Survey
-    ensures { Ready meaning machine.now → result ≡ totals_of (λ ns. (plays meaning machine.now ns).outcome) b }
+    ensures { Ready V.meaning machine.now → result ≡ totals_of (λ ns. (plays V.meaning machine.now ns).outcome) b }
 {
     let mut walk = Walk::begin(machine);
     let answer = walk.advance(machine, b);

@@ -1,5 +1,7 @@
 // takeaway: K's byte and then a program file on standard input; the file of the sequential program on standard output, or
 // the last two digits of the refusal and a line break.
+#![tactic(auto)]
+
 use sequences::sequence::Sequence;
 use std::io::{Read, Write};
 use tables::table::Table;

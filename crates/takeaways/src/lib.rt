@@ -1,2 +1,4 @@
 // What the program takeaway answers.
+#![tactic(auto)]
+
 pub mod reply;

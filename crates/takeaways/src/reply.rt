@@ -30,8 +30,8 @@ fn carry<V: Kind>(
     sequence: &mut Sequence<V>,
     out: &mut [u8],
 ) -> Result<usize, Refusal>
-    ensures answer { result ≡ answered out.old (carried meaning k file.now) }
-    ensures after { out.new ≡ left_in out.old (carried meaning k file.now) }
+    ensures answer { result ≡ answered out.old (carried V.meaning k file.now) }
+    ensures after { out.new ≡ left_in out.old (carried V.meaning k file.now) }
 {
     if let Err(e) = table.load::<V>(file) {
         return Err(e.refusal);

@@ -1,7 +1,7 @@
 // What a statement comes to in a state, before anything is changed.
 ghost use Rattle.std.specs.Prelude.{◌≡◌, ◌<◌};
 ghost use Rattle.tables.specs.Tables.{view};
-ghost use Rattle.threads.specs.Effects.{effect as said-effect, ended as has_ended, locking as lock-effect, unlocking as unlock-effect};
+ghost use Rattle.threads.specs.Effects.{effect as said_effect, ended as has_ended, locking as lock_effect, unlocking as unlock_effect};
 
 use kinds::Kind;
 use records::statement::{Label, Mutex, Place, Statement, Thread};
@@ -28,7 +28,7 @@ fn ended(state: &State, table: &Table, j: Thread) -> bool
 }
 
 fn locking(state: &State, i: Thread, m: Mutex) -> Effect
-    ensures { result ≡ lock-effect state.now i m }
+    ensures { result ≡ lock_effect state.now i m }
 {
     match state.mutex(m) {
         MutexState::Free => Effect::Mark(m, MutexState::Held(i)),
@@ -38,7 +38,7 @@ fn locking(state: &State, i: Thread, m: Mutex) -> Effect
 }
 
 fn unlocking(state: &State, i: Thread, m: Mutex) -> Effect
-    ensures { result ≡ unlock-effect state.now i m }
+    ensures { result ≡ unlock_effect state.now i m }
 {
     match state.mutex(m) {
         MutexState::Held(j) if j.0 == i.0 => Effect::Mark(m, MutexState::Free),
@@ -49,7 +49,7 @@ fn unlocking(state: &State, i: Thread, m: Mutex) -> Effect
 // What the statement `s` of thread `i` comes to.
 pub fn effect_of<V: Kind>(state: &State, table: &Table, i: Thread, s: Statement) -> Effect
     requires { i.0 < 8 }
-    ensures { result ≡ said-effect meaning (view table.now) i state.now s }
+    ensures { result ≡ said_effect V.meaning (view table.now) i state.now s }
 {
     match s {
         Statement::Set { d, c } => Effect::Write(d, c),

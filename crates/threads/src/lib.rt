@@ -1,4 +1,6 @@
 // The thread machine: threads that take turns over shared cells and mutexes.
+#![tactic(auto)]
+
 pub mod effect;
 pub mod machine;
 pub mod play;

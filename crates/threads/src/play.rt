@@ -20,9 +20,9 @@ impl<V: Kind> Machine<V> {
         requires few { length numbers.now ≤ 64 }
         requires room { length numbers.now ≤ length counts.old }
         requires stands { Stands (program self.now) (total self.now) at.old }
-        ensures report { result ≡ reported (rest meaning (program self.now) (total self.now) at.old numbers.now) }
-        ensures counts { counts.new ≡ front (rest meaning (program self.now) (total self.now) at.old numbers.now).counts counts.old }
-        ensures state { at.new.state ≡ (rest meaning (program self.now) (total self.now) at.old numbers.now).state }
+        ensures report { result ≡ reported (rest V.meaning (program self.now) (total self.now) at.old numbers.now) }
+        ensures counts { counts.new ≡ front (rest V.meaning (program self.now) (total self.now) at.old numbers.now).counts counts.old }
+        ensures state { at.new.state ≡ (rest V.meaning (program self.now) (total self.now) at.old numbers.now).state }
     {
         let mut outcome = self.standing(at);
         let mut carried: u16 = 0;
@@ -53,9 +53,9 @@ impl<V: Kind> Machine<V> {
         requires few { length numbers.now ≤ 64 }
         requires room { length numbers.now ≤ length counts.old }
         requires cells { length (program self.now).cells ≤ length cells.old }
-        ensures report { result ≡ reported (plays meaning self.now numbers.now) }
-        ensures counts { counts.new ≡ front (plays meaning self.now numbers.now).counts counts.old }
-        ensures cells { cells.new ≡ front (cells_left meaning self.now numbers.now) cells.old }
+        ensures report { result ≡ reported (plays V.meaning self.now numbers.now) }
+        ensures counts { counts.new ≡ front (plays V.meaning self.now numbers.now).counts counts.old }
+        ensures cells { cells.new ≡ front (cells_left V.meaning self.now numbers.now) cells.old }
     {
         let mut at = self.first();
         let report = self.run(&mut at, numbers, counts);
@@ -71,10 +71,10 @@ impl<V: Kind> Machine<V> {
         counts: &mut [u8],
         cells: &mut [u32],
     ) -> Result<Report, Refusal>
-        ensures answer { result ≡ answered (refusal numbers.now counts.old cells.old (length (program self.now).cells)) (reported (plays meaning self.now numbers.now)) }
-        ensures counts { counts.new ≡ unless (refusal numbers.now counts.old cells.old (length (program self.now).cells)) (front (plays meaning self.now numbers.now).counts counts.old) counts.old }
-        ensures cells { cells.new ≡ unless (refusal numbers.now counts.old cells.old (length (program self.now).cells)) (front (cells_left meaning self.now numbers.now) cells.old) cells.old }
-        ensures lawful { WellFormed meaning (program self.now) → LawfulCodes meaning (cells_left meaning self.now numbers.now) }
+        ensures answer { result ≡ answered (refusal numbers.now counts.old cells.old (length (program self.now).cells)) (reported (plays V.meaning self.now numbers.now)) }
+        ensures counts { counts.new ≡ unless (refusal numbers.now counts.old cells.old (length (program self.now).cells)) (front (plays V.meaning self.now numbers.now).counts counts.old) counts.old }
+        ensures cells { cells.new ≡ unless (refusal numbers.now counts.old cells.old (length (program self.now).cells)) (front (cells_left V.meaning self.now numbers.now) cells.old) cells.old }
+        ensures lawful { WellFormed V.meaning (program self.now) → LawfulCodes V.meaning (cells_left V.meaning self.now numbers.now) }
     {
         match asked(numbers, counts, cells, self.table.cells().len()) {
             Err(refusal) => Err(refusal),

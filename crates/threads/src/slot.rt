@@ -48,7 +48,7 @@ fn stopped(progress: Progress, d: u8) -> Option<Slot>
 // Thread `i` carries out `n` statements, if it can.
 pub fn run_slot<V: Kind>(state: &mut State, table: &Table, i: Thread, n: SlotCount) -> Slot
     requires { i.0 < 8 }
-    ensures { ran result state.new ≡ run meaning (view table.now) i n.0 0 state.old }
+    ensures { ran result state.new ≡ run V.meaning (view table.now) i n.0 0 state.old }
 {
     for d in 0..n.0 {
         if let Some(slot) = stopped(step::<V>(state, table, i), d) {

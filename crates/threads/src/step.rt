@@ -1,9 +1,9 @@
 // One statement of one thread.
 ghost use Rattle.std.specs.Prelude.{◌≡◌, ◌<◌};
 ghost use Rattle.tables.specs.Tables.{view};
-ghost use Rattle.threads.specs.Effects.{next as due-effect};
+ghost use Rattle.threads.specs.Effects.{next as due_effect};
 ghost use Rattle.states.specs.States.{label};
-ghost use Rattle.threads.specs.Steps.{progress as came-out, after as left_by};
+ghost use Rattle.threads.specs.Steps.{progress as came_out, after as left_by};
 
 use crate::effect::{Effect, effect_of};
 use kinds::Kind;
@@ -23,7 +23,7 @@ pub enum Progress {
 fn apply(state: &mut State, i: Thread, e: Effect) -> Progress
     requires thread { i.0 < 8 }
     requires due { label state.old i.0 < 255 }
-    ensures progress { result ≡ came-out e }
+    ensures progress { result ≡ came_out e }
     ensures after { state.new ≡ left_by i e state.old }
 {
     let next = Label(state.threads.label(i).0 + 1);
@@ -51,8 +51,8 @@ fn apply(state: &mut State, i: Thread, e: Effect) -> Progress
 // Thread `i` carries out the statement that is due, if it can.
 pub fn step<V: Kind>(state: &mut State, table: &Table, i: Thread) -> Progress
     requires { i.0 < 8 }
-    ensures progress { result ≡ came-out (due-effect meaning (view table.now) i state.old) }
-    ensures after { state.new ≡ left_by i (due-effect meaning (view table.now) i state.old) state.old }
+    ensures progress { result ≡ came_out (due_effect V.meaning (view table.now) i state.old) }
+    ensures after { state.new ≡ left_by i (due_effect V.meaning (view table.now) i state.old) state.old }
 {
     match table.statement(i, state.threads.label(i)) {
         None => Progress::Blocked,

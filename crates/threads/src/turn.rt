@@ -2,9 +2,9 @@
 ghost use Rattle.std.specs.Prelude.{◌≡◌, ◌+◌, ◌-◌, ◌*◌, ◌%◌, ◌<◌, ◌≤◌};
 ghost use Rattle.tables.specs.Tables.{view};
 ghost use Rattle.threads.specs.Machines.{program, total};
-ghost use Rattle.threads.specs.Plays.{bound as most, serve as served-so};
+ghost use Rattle.threads.specs.Plays.{bound as most, serve as served_so};
 ghost use Rattle.threads.specs.Slots.{ran};
-ghost use Rattle.threads.specs.Turns.{width, seek as first-existing, standing as stands-as, turn as turned_by, with_point, first as at_first};
+ghost use Rattle.threads.specs.Turns.{width, seek as first_existing, standing as stands_as, turn as turned_by, with_point, first as at_first};
 
 use crate::machine::Machine;
 use crate::point::Point;
@@ -33,7 +33,7 @@ fn bound(state: &State, table: &Table, i: Thread) -> u8
 // Thread `i`'s slot with the number `n`.
 fn serve<V: Kind>(state: &mut State, table: &Table, i: Thread, n: SlotCount) -> Slot
     requires { i.0 < 8 }
-    ensures { ran result state.new ≡ served-so meaning (view table.now) i.0 state.old n.0 }
+    ensures { ran result state.new ≡ served_so V.meaning (view table.now) i.0 state.old n.0 }
 {
     if n.0 > bound(state, table, i) {
         return Slot {
@@ -67,7 +67,7 @@ impl<V: Kind> Machine<V> {
     // The first slot from `from` on whose thread is created, or the number of all slots.
     fn seek(&self, state: &State, from: u8) -> u8
         requires { from ≤ total self.now }
-        ensures { result ≡ first-existing (program self.now) state.now (total self.now - from) from }
+        ensures { result ≡ first_existing (program self.now) state.now (total self.now - from) from }
     {
         let slots = self.slots();
         for q in from..slots {
@@ -80,7 +80,7 @@ impl<V: Kind> Machine<V> {
 
     // What a run comes to that stands at a point, with no number left.
     pub fn standing(&self, at: &Point) -> Outcome
-        ensures { result ≡ stands-as (program self.now) (total self.now) at.now }
+        ensures { result ≡ stands_as (program self.now) (total self.now) at.now }
     {
         if at.slot < self.slots() {
             Outcome::Open(bound(&at.state, &self.table, self.thread_at(at.slot)))
@@ -91,7 +91,7 @@ impl<V: Kind> Machine<V> {
 
     // The point before the first number.
     pub fn first(&self) -> Point
-        ensures { result ≡ at_first meaning (program self.now) (total self.now) }
+        ensures { result ≡ at_first V.meaning (program self.now) (total self.now) }
     {
         let state = State::start::<V>(&self.table);
         let slot = self.seek(&state, 0);
@@ -100,7 +100,7 @@ impl<V: Kind> Machine<V> {
 
     // Goes on from a point by one number.
     pub fn turn(&self, at: &mut Point, number: u8) -> Turn
-        ensures { with_point result at.new ≡ turned_by meaning (program self.now) (total self.now) at.old number }
+        ensures { with_point result at.new ≡ turned_by V.meaning (program self.now) (total self.now) at.old number }
     {
         if at.slot >= self.slots() {
             return Turn {

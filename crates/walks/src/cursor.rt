@@ -16,7 +16,7 @@ pub struct Cursor<P> {
 
 // One number more, from a point on. Only here is a runner asked to go on.
 fn go_on<R: Runner>(r: &R, at: &mut R::Point, number: u8) -> Outcome
-    ensures { (l : List ℕ) → stands r.now at.old l → Landed (outcome r.now) (stands r.now) (l ++ number ∷ []) result at.new }
+    ensures { (l : List ℕ) → R.stands r.now at.old l → Landed (R.outcome r.now) (R.stands r.now) (l ++ number ∷ []) result at.new }
 {
     r.step(at, number)
 }
@@ -26,7 +26,7 @@ impl<P: Copy> Cursor<P> {
     fn step<R: Runner<Point = P>>(&mut self, r: &R) -> Outcome
         requires { 0 < self.old.path.depth }
         ensures path { self.new.path ≡ self.old.path }
-        ensures point { PlacedAt (stands r.now) self.old → Arrived (outcome r.now) (stands r.now) self.new result }
+        ensures point { PlacedAt (R.stands r.now) self.old → Arrived (R.outcome r.now) (R.stands r.now) self.new result }
     {
         let top = self.path.depth - 1;
         self.points[top + 1] = self.points[top];
@@ -37,7 +37,7 @@ impl<P: Copy> Cursor<P> {
     // lawful runner is never open then.
     pub fn descend<R: Runner<Point = P>>(&mut self, r: &R) -> Ending
         requires { 0 < self.old.path.depth }
-        ensures { ready r.now → PlacedAt (stands r.now) self.old → Descended (outcome r.now) (stands r.now) self.old self.new result }
+        ensures { R.ready r.now → PlacedAt (R.stands r.now) self.old → Descended (R.outcome r.now) (R.stands r.now) self.old self.new result }
     {
         loop {
             match self.step(r) {

@@ -1,4 +1,6 @@
 // A walk over the leaves of a tree of runs: no leaf is visited twice, none is passed over, and no run starts anew.
+#![tactic(auto)]
+
 mod cursor;
 pub mod found;
 pub mod outcome;

@@ -11,7 +11,7 @@ use sections::emit::emit;
 impl<V: Kind> Job<V> {
     // Save: writes the program's file to the front of the buffer, and answers its length.
     pub fn save(&self, out: &mut [u8]) -> Result<usize, Refusal>
-        ensures { (m : Model) → Keeps meaning self.now m → written_as result out.new ≡ save_reply meaning m out.old }
+        ensures { (m : Model) → Keeps V.meaning self.now m → written_as result out.new ≡ save_reply V.meaning m out.old }
     {
         match self.stage {
             Stage::Empty => Err(Refusal::NotLoaded),
@@ -21,7 +21,7 @@ impl<V: Kind> Job<V> {
 
     // Emit: writes the sequential program's file to the front of the buffer, and answers its length.
     pub fn emit(&self, out: &mut [u8]) -> Result<usize, Refusal>
-        ensures { (m : Model) → Keeps meaning self.now m → written_as result out.new ≡ emit_reply meaning m out.old }
+        ensures { (m : Model) → Keeps V.meaning self.now m → written_as result out.new ≡ emit_reply V.meaning m out.old }
     {
         match self.stage {
             Stage::Empty | Stage::Loaded => Err(Refusal::NotTranslated),

@@ -15,7 +15,7 @@ impl<V: Kind> Job<V> {
     fn schedule_of(&self, guesses: &[u8], schedule: &mut [u8])
         requires few { length guesses.now ≤ 64 }
         requires room { length guesses.now ≤ length schedule.old }
-        ensures { schedule.new ≡ front (drives_so meaning self.now.sequential.sequence guesses.now).counts schedule.old }
+        ensures { schedule.new ≡ front (drives_so V.meaning self.now.sequential.sequence guesses.now).counts schedule.old }
     {
         let mut cells = [0; 16];
         let _ = self
@@ -26,7 +26,7 @@ impl<V: Kind> Job<V> {
 
     // Writes the latest list and its schedule, if there is room for both.
     fn tell(&self, guesses: &mut [u8], schedule: &mut [u8]) -> Result<usize, Refusal>
-        ensures { shown_as result guesses.new schedule.new ≡ shown (latest_list self.now.walk.tally) (drives_so meaning self.now.sequential.sequence (latest_list self.now.walk.tally)).counts guesses.old schedule.old }
+        ensures { shown_as result guesses.new schedule.new ≡ shown (latest_list self.now.walk.tally) (drives_so V.meaning self.now.sequential.sequence (latest_list self.now.walk.tally)).counts guesses.old schedule.old }
     {
         let latest = self.walk.latest();
         let n = latest.len();
@@ -40,7 +40,7 @@ impl<V: Kind> Job<V> {
 
     // Found: its length, and both lists at the front of the two buffers.
     pub fn found(&self, guesses: &mut [u8], schedule: &mut [u8]) -> Result<usize, Refusal>
-        ensures { (m : Model) → Keeps meaning self.now m → shown_as result guesses.new schedule.new ≡ found_reply meaning m guesses.old schedule.old }
+        ensures { (m : Model) → Keeps V.meaning self.now m → shown_as result guesses.new schedule.new ≡ found_reply V.meaning m guesses.old schedule.old }
     {
         match self.stage {
             Stage::Empty | Stage::Loaded => Err(Refusal::NotTranslated),

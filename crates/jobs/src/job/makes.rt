@@ -20,14 +20,14 @@ use walks::walk::Walk;
 impl<V: Kind> Job<V> {
     // An empty job. Only here can memory be short. All that is promised of a job's counts is promised here.
     pub fn new(heap: Global) -> Result<Job<V>, AllocError>
-        ensures made { IfOk result (λ j. Keeps meaning j empty) }
+        ensures made { IfOk result (λ j. Keeps V.meaning j empty) }
         ensures agree { CountsAgree }
     {
         Job::make(heap)
     }
 
     fn make(heap: Global) -> Result<Job<V>, AllocError>
-        ensures { IfOk result (λ j. Keeps meaning j empty) }
+        ensures { IfOk result (λ j. Keeps V.meaning j empty) }
     {
         let threads = Machine::new(Table::new(heap)?);
         let sequential = SequentialMachine {
@@ -46,8 +46,8 @@ impl<V: Kind> Job<V> {
 
     // Load: the first no, or the program of the file. A refusal leaves the job as it was.
     pub fn load(&mut self, file: &[u8]) -> Result<(), LoadError>
-        ensures answer { result ≡ question meaning file.now }
-        ensures after { (m : Model) → Keeps meaning self.old m → Keeps meaning self.new (next meaning m (load file.now)) }
+        ensures answer { result ≡ question V.meaning file.now }
+        ensures after { (m : Model) → Keeps V.meaning self.old m → Keeps V.meaning self.new (next V.meaning m (load file.now)) }
     {
         if let Err(e) = self.threads.table.load::<V>(file) {
             return Err(e);
@@ -58,7 +58,7 @@ impl<V: Kind> Job<V> {
 
     // The translation over the rounds that are set, and both walks at their beginnings.
     fn translated(&mut self)
-        ensures { WellFormed meaning (program self.old.threads) → 1 ≤ self.old.threads.rounds → HasTranslation meaning self.new (program self.old.threads) self.old.threads.rounds 0 0 }
+        ensures { WellFormed V.meaning (program self.old.threads) → 1 ≤ self.old.threads.rounds → HasTranslation V.meaning self.new (program self.old.threads) self.old.threads.rounds 0 0 }
     {
         self.sequential
             .sequence
@@ -70,7 +70,7 @@ impl<V: Kind> Job<V> {
 
     // Translate: makes the sequential program over so many rounds. A refusal leaves the job as it was.
     pub fn translate(&mut self, rounds: u32) -> Result<(), Refusal>
-        ensures { (m : Model) → Keeps meaning self.old m → (result ≡ translate_answer m rounds) × Keeps meaning self.new (next meaning m (translate rounds)) }
+        ensures { (m : Model) → Keeps V.meaning self.old m → (result ≡ translate_answer m rounds) × Keeps V.meaning self.new (next V.meaning m (translate rounds)) }
     {
         if let Stage::Empty = self.stage {
             return Err(Refusal::NotLoaded);

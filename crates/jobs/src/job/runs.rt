@@ -16,8 +16,8 @@ impl<V: Kind> Job<V> {
         counts: &mut [u8],
         cells: &mut [u32],
     ) -> Result<Report, Refusal>
-        ensures answer { (m : Model) → Keeps meaning self.now m → lent_as result counts.new cells.new ≡ play_reply meaning m numbers.now counts.old cells.old }
-        ensures lawful { (m : Model) → Keeps meaning self.now m → LawfulPlay meaning m numbers.now }
+        ensures answer { (m : Model) → Keeps V.meaning self.now m → lent_as result counts.new cells.new ≡ play_reply V.meaning m numbers.now counts.old cells.old }
+        ensures lawful { (m : Model) → Keeps V.meaning self.now m → LawfulPlay V.meaning m numbers.now }
     {
         match self.stage {
             Stage::Empty | Stage::Loaded => Err(Refusal::NotTranslated),
@@ -32,8 +32,8 @@ impl<V: Kind> Job<V> {
         counts: &mut [u8],
         cells: &mut [u32],
     ) -> Result<Report, Refusal>
-        ensures answer { (m : Model) → Keeps meaning self.now m → lent_as result counts.new cells.new ≡ drive_reply meaning m numbers.now counts.old cells.old }
-        ensures lawful { (m : Model) → Keeps meaning self.now m → LawfulDrive meaning m numbers.now }
+        ensures answer { (m : Model) → Keeps V.meaning self.now m → lent_as result counts.new cells.new ≡ drive_reply V.meaning m numbers.now counts.old cells.old }
+        ensures lawful { (m : Model) → Keeps V.meaning self.now m → LawfulDrive V.meaning m numbers.now }
     {
         match self.stage {
             Stage::Empty | Stage::Loaded => Err(Refusal::NotTranslated),

@@ -11,7 +11,7 @@ use records::refusal::Refusal;
 impl<V: Kind> Job<V> {
     // Walk: the next `b` guess lists, or those left. A refusal leaves the job as it was.
     pub fn walk(&mut self, b: u32) -> Result<Counts, Refusal>
-        ensures { (m : Model) → Keeps meaning self.old m → (result ≡ walk_reply meaning m b) × Keeps meaning self.new (next meaning m (walk b)) }
+        ensures { (m : Model) → Keeps V.meaning self.old m → (result ≡ walk_reply V.meaning m b) × Keeps V.meaning self.new (next V.meaning m (walk b)) }
     {
         match self.stage {
             Stage::Empty | Stage::Loaded => Err(Refusal::NotTranslated),
@@ -21,7 +21,7 @@ impl<V: Kind> Job<V> {
 
     // Survey: the next `b` schedules, or those left. A refusal leaves the job as it was.
     pub fn survey(&mut self, b: u32) -> Result<Counts, Refusal>
-        ensures { (m : Model) → Keeps meaning self.old m → (result ≡ survey_reply meaning m b) × Keeps meaning self.new (next meaning m (survey b)) }
+        ensures { (m : Model) → Keeps V.meaning self.old m → (result ≡ survey_reply V.meaning m b) × Keeps V.meaning self.new (next V.meaning m (survey b)) }
     {
         match self.stage {
             Stage::Empty | Stage::Loaded => Err(Refusal::NotTranslated),

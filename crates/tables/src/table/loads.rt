@@ -91,11 +91,11 @@ impl Table {
 
     // Load: the first no, or the program of the file in the place of the old one.
     pub fn load<V: Kind>(&mut self, file: &[u8]) -> Result<(), LoadError>
-        ensures answer { result ≡ asked meaning file.now }
-        ensures after { view self.new ≡ loaded (asked meaning file.now) (decoded file.now) (view self.old) }
+        ensures answer { result ≡ asked V.meaning file.now }
+        ensures after { view self.new ≡ loaded (asked V.meaning file.now) (decoded file.now) (view self.old) }
         ensures kept { is_ok result ≡ false → self.new ≡ self.old }
-        ensures well { asked meaning file.now ≡ accepted → WellFormed meaning (view self.new) }
-        ensures back { asked meaning file.now ≡ accepted → encoded meaning.byte (view self.new) ≡ file.now }
+        ensures well { asked V.meaning file.now ≡ accepted → WellFormed V.meaning (view self.new) }
+        ensures back { asked V.meaning file.now ≡ accepted → encoded V.meaning.byte (view self.new) ≡ file.now }
     {
         match question::<V>(file) {
             Err(e) => Err(e),

@@ -115,7 +115,7 @@ impl Table {
     }
 
     fn header<V: Kind>(&self) -> [u8; 10]
-        ensures { result ≡ header_row meaning.byte (view self.now) }
+        ensures { result ≡ header_row V.meaning.byte (view self.now) }
     {
         row(
             b'P',
@@ -130,8 +130,8 @@ impl Table {
 
     // Writes the program's file to a buffer that is long enough.
     fn write<V: Kind>(&self, out: &mut [u8])
-        requires { length (encoded meaning.byte (view self.now)) ≤ length out.old }
-        ensures { out.new ≡ wrote out.old 0 (encoded meaning.byte (view self.now)) }
+        requires { length (encoded V.meaning.byte (view self.now)) ≤ length out.old }
+        ensures { out.new ≡ wrote out.old 0 (encoded V.meaning.byte (view self.now)) }
     {
         let at = put(out, 0, self.header::<V>());
         let next = self.save_cells(out, at);
@@ -140,9 +140,9 @@ impl Table {
 
     // Save: writes the program's file to the front of the buffer, and answers its length.
     pub fn save<V: Kind>(&self, out: &mut [u8]) -> Result<usize, Refusal>
-        ensures answer { result ≡ counted out.old (encoded meaning.byte (view self.now)) }
-        ensures after { out.new ≡ filled out.old (encoded meaning.byte (view self.now)) }
-        ensures again { WellFormed meaning (view self.now) → asked meaning (encoded meaning.byte (view self.now)) ≡ accepted }
+        ensures answer { result ≡ counted out.old (encoded V.meaning.byte (view self.now)) }
+        ensures after { out.new ≡ filled out.old (encoded V.meaning.byte (view self.now)) }
+        ensures again { WellFormed V.meaning (view self.now) → asked V.meaning (encoded V.meaning.byte (view self.now)) ≡ accepted }
     {
         let n = self.file_len();
         if out.len() < n {

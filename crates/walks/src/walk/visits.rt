@@ -15,9 +15,9 @@ use crate::walk::{Answer, Walk};
 impl<P: Copy> Walk<P> {
     // A walk that has visited nothing yet.
     pub fn begin<R: Runner<Point = P>>(r: &R) -> Walk<P>
-        ensures tied { Tied (outcome r.now) (stands r.now) result }
+        ensures tied { Tied (R.outcome r.now) (R.stands r.now) result }
         ensures tally { result.tally ≡ nothing }
-        ensures complete { ready r.now → Complete (outcome r.now) (leaves (outcome r.now)) }
+        ensures complete { R.ready r.now → Complete (R.outcome r.now) (leaves (R.outcome r.now)) }
     {
         let (outcome, point) = r.start();
         Walk {
@@ -33,7 +33,7 @@ impl<P: Copy> Walk<P> {
     pub fn visit<R: Runner<Point = P>>(&mut self, r: &R) -> Option<Ending>
         requires { visited self.old.tally + 1 < 2 ^ 32 }
         ensures count { visited self.new.tally ≡ and_one (visited self.old.tally) result }
-        ensures leaf { ready r.now → Tied (outcome r.now) (stands r.now) self.old → Visited (outcome r.now) (stands r.now) self.old self.new result }
+        ensures leaf { R.ready r.now → Tied (R.outcome r.now) (R.stands r.now) self.old → Visited (R.outcome r.now) (R.stands r.now) self.old self.new result }
     {
         if self.cursor.path.depth == 0 {
             return None;
@@ -58,8 +58,8 @@ impl<P: Copy> Walk<P> {
     // Visits the next `b` leaves, or those left.
     pub fn advance<R: Runner<Point = P>>(&mut self, r: &R, b: u32) -> Answer
         requires { visited self.old.tally + b < 2 ^ 32 }
-        ensures leaves { ready r.now → Tied (outcome r.now) (stands r.now) self.old → Advanced (outcome r.now) (stands r.now) self.old self.new b result }
-        ensures complete { ready r.now → Complete (outcome r.now) (leaves (outcome r.now)) }
+        ensures leaves { R.ready r.now → Tied (R.outcome r.now) (R.stands r.now) self.old → Advanced (R.outcome r.now) (R.stands r.now) self.old self.new b result }
+        ensures complete { R.ready r.now → Complete (R.outcome r.now) (leaves (R.outcome r.now)) }
     {
         for _ in 0..b {
             if let None = self.visit(r) {

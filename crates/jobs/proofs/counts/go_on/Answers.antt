@@ -9,5 +9,5 @@ returns-in-Err g c ready tied =
 pub returns : goal.returns
 returns g c ready tied =
     let r = c.args.r.now in
-    walked (g.R.Runner.outcome r) (g.R.Runner.stands r) (g.met.R.Runner.lawful r ready) c.args.walk.now tied c.args.b c.advance-answer.new.self c.visits-of.result c.advance-answer.result c.counts-of.result
-    c.in-default.ensures c.visits-of.ensures (c.advance-answer.ensures.leaves ready tied) c.counts-of.ensures
+    walked (g.R.Runner.outcome r) (g.R.Runner.stands r) (g.met.R.Runner.lawful r ready) c.args.walk.now tied c.args.b c.advance-answer.new.self c.visits_of.result c.advance-answer.result c.counts_of.result
+    c.in_default.ensures c.visits_of.ensures (c.advance-answer.ensures.leaves ready tied) c.counts_of.ensures

@@ -13,13 +13,13 @@ returns-then-out-n g c =
     let p = view c.args.table.now in
     let s = c.args.sequence.now in
     let r = c.args.rounds in
-    let e = short c.args.out.now (emitted_of k.byte p r (guide_of s) (sections_of s)) c.file-len-n.result (c.file-len-n.ensures ∙ sym (length_emitted k.byte p r (guide_of s) (sections_of s))) (omega arith) in
+    let e = short c.args.out.now (emitted_of k.byte p r (guide_of s) (sections_of s)) c.file_len-n.result (c.file_len-n.ensures ∙ sym (length_emitted k.byte p r (guide_of s) (sections_of s))) (omega arith) in
     record { answer = e.0; after = e.1; translated = emitted_translated k.byte s p r; few = emitted_few k p r }
 
 pub write-requires : goal.write-requires
 write-requires g c =
     let s = c.args.sequence.now in
-    omega (arith, c.file-len-n.ensures, length_emitted g.V.Kind.meaning.byte (view c.args.table.now) c.args.rounds (guide_of s) (sections_of s))
+    omega (arith, c.file_len-n.ensures, length_emitted g.V.Kind.meaning.byte (view c.args.table.now) c.args.rounds (guide_of s) (sections_of s))
 
 pub returns : goal.returns
 returns g c =
@@ -27,5 +27,5 @@ returns g c =
     let p = view c.args.table.now in
     let s = c.args.sequence.now in
     let r = c.args.rounds in
-    let e = enough c.args.out.now (emitted_of k.byte p r (guide_of s) (sections_of s)) c.file-len-n.result (c.file-len-n.ensures ∙ sym (length_emitted k.byte p r (guide_of s) (sections_of s))) (omega arith) in
+    let e = enough c.args.out.now (emitted_of k.byte p r (guide_of s) (sections_of s)) c.file_len-n.result (c.file_len-n.ensures ∙ sym (length_emitted k.byte p r (guide_of s) (sections_of s))) (omega arith) in
     record { answer = e.0; after = c.write.ensures ∙ e.1; translated = emitted_translated k.byte s p r; few = emitted_few k p r }

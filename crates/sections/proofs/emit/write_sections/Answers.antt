@@ -10,8 +10,8 @@ use Rattle.sections.proofs.Emits.{length_more, sections_more, sections_all}
 use Rattle.sections.proofs.Sections.{length_section}
 use Rattle.sections.proofs.emit.write_sections.Goals as goal
 
-pub write-section-at-requires : goal.write-section-at-requires
-write-section-at-requires g c =
+pub write_section-at-requires : goal.write_section-at-requires
+write_section-at-requires g c =
     let S = sections_of c.args.sequence.now in
     let ts = (view c.args.table.now).texts in
     let i = c.loop-i.i in
@@ -30,7 +30,7 @@ loop-i-preserved g c =
     let own = of.Thread (thread i) t.locals in
     let h : i < length ts = omega (arith, c.threads-i-end.ensures.value) in
     let parts = sections_more S ts i t code h c.text.ensures c.section.ensures.value in
-    advance c.loop-i.out c.write-section-at.new.out c.loop-i.at c.write-section-at.result (section_bytes own code) (sections_from S (i + 1) (drop (i + 1) ts)) _ _ _ parts c.loop-i.invariant.1 (omega (arith, c.requires, c.loop-i.auto.out)) c.write-section-at.ensures.after (omega (arith, c.write-section-at.ensures.next, length_section own code)) c.loop-i.invariant.0
+    advance c.loop-i.out c.write_section-at.new.out c.loop-i.at c.write_section-at.result (section_bytes own code) (sections_from S (i + 1) (drop (i + 1) ts)) _ _ _ parts c.loop-i.invariant.1 (omega (arith, c.requires, c.loop-i.auto.out)) c.write_section-at.ensures.after (omega (arith, c.write_section-at.ensures.next, length_section own code)) c.loop-i.invariant.0
 
 pub returns : goal.returns
 returns g c =

@@ -13,8 +13,8 @@ loop-l-preserved c =
     let inv = c.loop-l.invariant in
     let end = c.loop-l.behind + 1 + c.width.result in
     let room : l + 1 < length c.loop-l.at = omega (arith, c.requires, inv.2) in (
-      (λ p i. found_more p i c.args.text.now l c.loop-l.behind end _ c.loop-l.at _ c.loop-l-test.true room (ap (λ w. c.loop-l.behind + 1 + w) c.width.ensures.value) c.behind-guard-behind.ensures.value (inv.0 p i)),
-      omega (arith, inv.1, c.width.ensures.few, c.behind-guard-behind.ensures.near),
+      (λ p i. found_more p i c.args.text.now l c.loop-l.behind end _ c.loop-l.at _ c.loop-l-test.true room (ap (λ w. c.loop-l.behind + 1 + w) c.width.ensures.value) c.behind_guard-behind.ensures.value (inv.0 p i)),
+      omega (arith, inv.1, c.width.ensures.few, c.behind_guard-behind.ensures.near),
       length-set c.loop-l.at (l + 1) end ∙ inv.2,
       All-set (λ a. a ≤ 1275) c.loop-l.at (l + 1) end (omega (arith, inv.1, c.width.ensures.few, c.requires)) inv.3,
     )

@@ -6,7 +6,7 @@ pub loop-j-preserved : goal.loop-j-preserved
 loop-j-preserved c =
     let codes = c.args.codes.now in
     let j = c.loop-j.j in
-    let e = c.push-reserved.ensures in (
+    let e = c.push_reserved.ensures in (
       e.items ∙ ap (λ xs. xs ++ get_or codes j 0 ∷ []) c.loop-j.invariant.0 ∙ sym (take_more codes j 0 c.loop-j-test.true),
       omega (arith, c.loop-j.invariant.1, e.capacity),
       omega (arith, c.loop-j.invariant.2, e.len),

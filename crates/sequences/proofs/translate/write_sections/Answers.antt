@@ -20,13 +20,13 @@ loop-i-preserved c =
     let p = view c.args.table.now in
     let i = c.loop-i.i in
     let xs = vec_items c.loop-i.sections in
-    let ys = vec_items c.write-section.new.code in
+    let ys = vec_items c.write_section.new.code in
     let b : i < 8 = omega (arith, c.threads-i-end.ensures.few) in
-    let t = c.between.ensures ∙ ap (part_between _) (c.len.ensures ∙ c.write-section.new.code.ok.0) ∙ ap (λ f. part_between f (length ys)) (c.len-first.ensures ∙ c.loop-i.sections.ok.0) in
-    let e = c.push-reserved.ensures in (
+    let t = c.between.ensures ∙ ap (part_between _) (c.len.ensures ∙ c.write_section.new.code.ok.0) ∙ ap (λ f. part_between f (length ys)) (c.len-first.ensures ∙ c.loop-i.sections.ok.0) in
+    let e = c.push_reserved.ensures in (
       (λ small.
-          written_more p small i xs ys (vec_items c.loop-i.parts) _ c.between.result b (c.loop-i.invariant.0 small) (c.write-section.ensures.items (own_all Low p i small.low)) e.items t),
-      c.write-section.ensures.room,
+          written_more p small i xs ys (vec_items c.loop-i.parts) _ c.between.result b (c.loop-i.invariant.0 small) (c.write_section.ensures.items (own_all Low p i small.low)) e.items t),
+      c.write_section.ensures.room,
       omega (arith, c.loop-i.invariant.2, e.capacity),
       omega (arith, c.loop-i.invariant.3, e.len),
     )

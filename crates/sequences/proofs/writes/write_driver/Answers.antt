@@ -9,22 +9,22 @@ loop-q-init c =
     let p = view c.args.table.now in
     (ap (λ xs. take 257 (vec_items c.args.driver.now ++ xs)) (driver_start p (length p.texts) (slot_total p c.args.rounds)), c.requires)
 
-pub thread-at-requires : goal.thread-at-requires
-thread-at-requires c =
+pub thread_at-requires : goal.thread_at-requires
+thread_at-requires c =
     let p = view c.args.table.now in
     let l : c.loop-q.q < slot_total p c.args.rounds = omega (arith, c.slots-q-end.ensures.value) in
     threads_some c.args.rounds (length p.texts) c.loop-q.q l
 
-pub write-slot-requires : goal.write-slot-requires
-write-slot-requires c = record { at = omega (arith, c.slots-q-end.ensures.few); room = c.loop-q.invariant.1 }
+pub write_slot-requires : goal.write_slot-requires
+write_slot-requires c = record { at = omega (arith, c.slots-q-end.ensures.few); room = c.loop-q.invariant.1 }
 
 pub loop-q-preserved : goal.loop-q-preserved
 loop-q-preserved c =
     let p = view c.args.table.now in
     let n = slot_total p c.args.rounds in
     let l : c.loop-q.q < n = omega (arith, c.slots-q-end.ensures.value) in (
-      driver_more p (length p.texts) n 257 c.loop-q.q c.thread-at.result.0 (vec_items c.loop-q.driver) (vec_items c.write-slot.new.driver) l c.thread-at.ensures c.write-slot.ensures.items ∙ c.loop-q.invariant.0,
-      c.write-slot.ensures.room,
+      driver_more p (length p.texts) n 257 c.loop-q.q c.thread_at.result.0 (vec_items c.loop-q.driver) (vec_items c.write_slot.new.driver) l c.thread_at.ensures c.write_slot.ensures.items ∙ c.loop-q.invariant.0,
+      c.write_slot.ensures.room,
     )
 
 pub returns : goal.returns

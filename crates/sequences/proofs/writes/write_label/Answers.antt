@@ -13,7 +13,7 @@ returns c =
           λ low.
           room_label 1936 old _ _ _ _ _ _
           (c.emit.ensures.items ∙ ap (λ x. take 1936 (old ++ x ∷ [])) c.hop.ensures)
-          (c.emit-inner.ensures.items ∙ ap (λ xs. take 1936 (vec_items c.emit.new.code ++ xs)) (c.inner-of.ensures low))
-          c.write-guard.ensures.items;
-      room = c.write-guard.ensures.room;
+          (c.emit_inner.ensures.items ∙ ap (λ xs. take 1936 (vec_items c.emit.new.code ++ xs)) (c.inner_of.ensures low))
+          c.write_guard.ensures.items;
+      room = c.write_guard.ensures.room;
     }

@@ -14,10 +14,10 @@ returns-in-Err g c =
     let w = load_refused g.V.Kind.meaning c.args.k c.args.file.now c.in-Err.e c.in-Err.ensures.answer in
     record { answer = ap (answered out) w; after = ap (left_in out) w }
 
-pub returns-in-Err-ask-rounds : goal.returns-in-Err-ask-rounds
-returns-in-Err-ask-rounds g c =
+pub returns-in-Err-ask_rounds : goal.returns-in-Err-ask_rounds
+returns-in-Err-ask_rounds g c =
     let out = c.args.out.now in
-    let w = rounds_refused g.V.Kind.meaning c.args.k c.args.file.now c.in-Err-ask-rounds.refusal c.in-default.ensures.answer c.in-Err-ask-rounds.ensures.answer in
+    let w = rounds_refused g.V.Kind.meaning c.args.k c.args.file.now c.in-Err-ask_rounds.refusal c.in_default.ensures.answer c.in-Err-ask_rounds.ensures.answer in
     record { answer = ap (answered out) w; after = ap (left_in out) w }
 
 pub returns : goal.returns
@@ -26,11 +26,11 @@ returns g c =
     let f = c.args.file.now in
     let r = c.args.k in
     let out = c.args.out.now in
-    let q = c.in-default.ensures.answer in
+    let q = c.in_default.ensures.answer in
     let t = c.load.new.self in
     let s = c.translate.new.sequence in
     let there : view t ≡ decoded f = c.load.ensures.after ∙ ap (λ a. loaded a (decoded f) (view c.args.table.now)) (sym q) in
-    let holds = c.translate.ensures.holds (c.translate.ensures.well (c.load.ensures.well (sym q))) (c.in-default-ask-rounds.ensures.few refl) in
+    let holds = c.translate.ensures.holds (c.translate.ensures.well (c.load.ensures.well (sym q))) (c.in_default-ask_rounds.ensures.few refl) in
     let full : emitted_of k.byte (view t) r (guide_of s) (sections_of s) ≡ emitted k.byte (decoded f) r = c.emit.ensures.translated holds ∙ ap (λ p. emitted k.byte p r) there in
-    let w = carried_whole k r f q c.in-default-ask-rounds.ensures.answer in
+    let w = carried_whole k r f q c.in_default-ask_rounds.ensures.answer in
     record { answer = c.emit.ensures.answer ∙ ap (counted out) full ∙ ap (answered out) w; after = c.emit.ensures.after ∙ ap (filled out) full ∙ ap (left_in out) w }

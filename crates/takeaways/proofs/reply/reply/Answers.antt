@@ -14,8 +14,8 @@ returns-in-Ok c =
     let out = c.args.out.now in
     let t = taken input in
     let e = taken_by input c.split-k.result.1.now c.split-k.result.0 c.split-k.ensures.rounds c.split-k.ensures.file in
-    let w = wrote_all out c.carry-by-kind.new.out t c.in-Ok.n (c.in-Ok.ensures.answer ∙ ap (answered out) e) (c.carry-by-kind.ensures.after ∙ ap (left_in out) e) in
-    let bytes : Bytes (drop 1 input) = λ j. omega (arith, c.type-inv.input (1 + j), get_or-drop 1 input j 0) in
+    let w = wrote_all out c.carry_by_kind.new.out t c.in-Ok.n (c.in-Ok.ensures.answer ∙ ap (answered out) e) (c.carry_by_kind.ensures.after ∙ ap (left_in out) e) in
+    let bytes : Bytes (drop 1 input) = λ j. omega (arith, c.type_inv.input (1 + j), get_or-drop 1 input j 0) in
     record {
       answer = w.0;
       after = w.1;
@@ -30,11 +30,11 @@ returns-in-Err c =
     let out = c.args.out.now in
     let t = taken input in
     let e = taken_by input c.split-k.result.1.now c.split-k.result.0 c.split-k.ensures.rounds c.split-k.ensures.file in
-    let w = wrote_none out c.carry-by-kind.new.out t c.in-Err.refusal (c.in-Err.ensures.answer ∙ ap (answered out) e) (c.carry-by-kind.ensures.after ∙ ap (left_in out) e) in
+    let w = wrote_none out c.carry_by_kind.new.out t c.in-Err.refusal (c.in-Err.ensures.answer ∙ ap (answered out) e) (c.carry_by_kind.ensures.after ∙ ap (left_in out) e) in
     let n : c.from.result ≡ number c.in-Err.refusal = c.from.ensures ∙ c.number.ensures in
     let d = two_digits c.from.result in
     let s = ap two_digits n ∙ w.1 in
-    let bytes : Bytes (drop 1 input) = λ j. omega (arith, c.type-inv.input (1 + j), get_or-drop 1 input j 0) in
+    let bytes : Bytes (drop 1 input) = λ j. omega (arith, c.type_inv.input (1 + j), get_or-drop 1 input j 0) in
     let a = c.digits.ensures.answer ∙ ap (λ o. counted o d) w.0 in
     record {
       answer = a ∙ ap (counted out) s;

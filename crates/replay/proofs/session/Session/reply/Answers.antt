@@ -9,9 +9,9 @@ returns-in-Play g c =
     let k = g.V.Kind.meaning in
     let s = held c.args.self.now in
     let asked : List ℕ → Said = λ ns. played_by k s ns c.in-Play.counts c.in-Play.cells in
-    let e : asked c.as-slice-in-Play.result.now ≡ reply k s c.args.call.now =
-    ap asked c.as-slice-in-Play.ensures.value ∙ ap (reply k s) (sym c.in-Play.is) in
+    let e : asked c.as_slice-in-Play.result.now ≡ reply k s c.args.call.now =
+    ap asked c.as_slice-in-Play.ensures.value ∙ ap (reply k s) (sym c.in-Play.is) in
     record {
-      answer = IfOk-weaker c.played.result (λ a. said a ≡ asked c.as-slice-in-Play.result.now) (λ a. said a ≡ reply k s c.args.call.now) (λ a h. h ∙ e) c.played.ensures;
+      answer = IfOk-weaker c.played.result (λ a. said a ≡ asked c.as_slice-in-Play.result.now) (λ a. said a ≡ reply k s c.args.call.now) (λ a h. h ∙ e) c.played.ensures;
       after = ap (next k s) (sym c.in-Play.is);
     }

@@ -7,11 +7,11 @@ use Rattle.replay.proofs.session.Session.saved.Goals as goal
 pub returns-in-Ok : goal.returns-in-Ok
 returns-in-Ok g c =
     let s = held c.args.self.now in
-    let old = c.as-mut-slice.result.now in
+    let old = c.as_mut_slice.result.now in
     let out = c.save.new.out in
-    let lent = c.as-mut-slice.ensures.len in
+    let lent = c.as_mut_slice.ensures.len in
     saved_so (wants_program s.stage) c.in-Ok.length c.args.room (file_of g.V.Kind.meaning s) old out c.truncate.new.self.items
-    (lent ∙ c.in-ok-file.ensures.len)
+    (lent ∙ c.in_ok-file.ensures.len)
     c.in-Ok.ensures.answer
     c.save.ensures.after
-    (lent_cut c.in-Ok.length c.in-ok-file.file.len out c.in-ok-file.file.items c.truncate.new.self.items (c.save.auto.out ∙ lent) c.truncate.ensures.items)
+    (lent_cut c.in-Ok.length c.in_ok-file.file.len out c.in_ok-file.file.items c.truncate.new.self.items (c.save.auto.out ∙ lent) c.truncate.ensures.items)

@@ -18,12 +18,12 @@ returns g c =
     let own = c.len-own.result in
     let eo : own ≡ length (codes_of s) = c.len-own.ensures ∙ s.cells.ok.0 in
     let room : own ≤ length out = omega (arith, c.requires.cells) in
-    let len : length c.copy-from-slice.new.self ≡ own = c.copy-from-slice.ensures.len ∙ length-take-le (own - 0) out (omega arith) ∙ (let z : own - 0 ≡ own = omega arith in z) in
+    let len : length c.copy_from_slice.new.self ≡ own = c.copy_from_slice.ensures.len ∙ length-take-le (own - 0) out (omega arith) ∙ (let z : own - 0 ≡ own = omega arith in z) in
     record {
       report = h.report ∙ ap reported e;
       counts = h.counts ∙ ap (λ (r : Driven). front r.counts c.args.counts.now) e;
       cells =
-          copied_front xs out c.copy-from-slice.new.self own len c.copy-from-slice.ensures.after
+          copied_front xs out c.copy_from_slice.new.self own len c.copy_from_slice.ensures.after
           ∙ ap (λ n. front (take n xs) out) eo
           ∙ ap (λ (q : SeqState). front (own_cells (codes_of s) q) out) (h.state ∙ ap (λ (r : Driven). r.state) e);
     }

@@ -17,8 +17,8 @@ loop-j-preserved g c =
     let s = instructions c.args.self.now in
     let ns = c.args.numbers.now in
     let all = drive_from k s c.args.start c.args.at.now ns in
-    let inv = subst (λ o. Running k s all ns c.args.counts.now c.loop-j.j c.loop-j.counts c.loop-j.carried o c.loop-j.at) c.in-default.is c.loop-j.invariant in
-    goes_on k s all ns c.args.counts.now c.loop-j.j c.loop-j.counts c.loop-j.carried c.in-default.field-0 c.loop-j.at _ (with_point c.turn-turn.result c.turn-turn.new.at) inv c.requires.room c.loop-j-test.true refl c.turn-turn.ensures (omega arith)
+    let inv = subst (λ o. Running k s all ns c.args.counts.now c.loop-j.j c.loop-j.counts c.loop-j.carried o c.loop-j.at) c.in_default.is c.loop-j.invariant in
+    goes_on k s all ns c.args.counts.now c.loop-j.j c.loop-j.counts c.loop-j.carried c.in_default.field-0 c.loop-j.at _ (with_point c.turn-turn.result c.turn-turn.new.at) inv c.requires.room c.loop-j-test.true refl c.turn-turn.ensures (omega arith)
 
 pub returns-in-Ended : goal.returns-in-Ended
 returns-in-Ended g c =

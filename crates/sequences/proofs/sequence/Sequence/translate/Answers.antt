@@ -12,12 +12,12 @@ returns g c =
       holds =
           λ small few.
           record {
-            codes = c.write-codes.ensures.items ∙ c.cells.ensures.value;
+            codes = c.write_codes.ensures.items ∙ c.cells.ensures.value;
             guide =
-                c.write-driver.ensures.items
+                c.write_driver.ensures.items
                 ∙ ap (λ xs. take 257 (xs ++ driver p c.args.rounds)) c.clear.ensures.items
                 ∙ driver_fits p c.args.rounds few (omega (arith, c.args.table.now.texts_few, c.args.table.now.texts.ok.0));
-            sections = c.write-sections.ensures.value small;
+            sections = c.write_sections.ensures.value small;
           };
       well = well_translatable g.V.Kind.meaning p;
     }

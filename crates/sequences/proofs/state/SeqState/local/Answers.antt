@@ -7,7 +7,7 @@ pub returns-else-i-lt8 : goal.returns-else-i-lt8
 returns-else-i-lt8 g c =
     let past : length c.args.self.now.locals ≤ c.args.i.0 = search rules in
     let e : locals_of c.args.self.now c.args.i.0 ≡ [] = get_or_past _ _ _ past in
-    c.fresh-code-else-i-lt8.ensures ∙ sym (ap (λ l. get_or l c.args.n g.V.Kind.meaning.fresh) e)
+    c.fresh_code-else-i-lt8.ensures ∙ sym (ap (λ l. get_or l c.args.n g.V.Kind.meaning.fresh) e)
 
 pub returns-then-i-lt8 : goal.returns-then-i-lt8
-returns-then-i-lt8 g c = c.item-or.ensures ∙ ap (get_or (locals_of c.args.self.now c.args.i.0) c.args.n) c.fresh-code.ensures
+returns-then-i-lt8 g c = c.item_or.ensures ∙ ap (get_or (locals_of c.args.self.now c.args.i.0) c.args.n) c.fresh_code.ensures

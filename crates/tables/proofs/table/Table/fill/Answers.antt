@@ -25,7 +25,7 @@ loop-i-preserved c =
     let i = c.loop-i.i in
     let at = c.loop-i.first in
     let e = c.add-first.ensures.after in
-    let s : a (body (line f i)) ≤ 255 = omega (arith, body_line f i 2 (omega arith), c.type-inv.file (10 * i + (2 + 2))) in (
+    let s : a (body (line f i)) ≤ 255 = omega (arith, body_line f i 2 (omega arith), c.type_inv.file (10 * i + (2 + 2))) in (
       grown p (view c.add-first.new.self) at c.add-first.result f i (omega arith) c.loop-i.invariant.0 e c.add-first.ensures.next,
       omega (arith, c.add-first.ensures.next, behind_most at (line f i) i c.loop-i.invariant.1 s),
       omega (arith, ap (λ z. length z.statements) e, statements_most p at (line f i) i c.loop-i.invariant.2),

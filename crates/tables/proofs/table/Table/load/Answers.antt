@@ -13,7 +13,7 @@ fill-requires g c =
     let f = c.args.file.now in
     let e = sym c.in-Ok.ensures in
     let p = parts k f e in
-    let q = held k f (λ j. omega (arith, c.type-inv.file j)) e in
+    let q = held k f (λ j. omega (arith, c.type_inv.file j)) e in
     record { some = omega arith; few = p.most; wide = q.wide; deep = q.deep }
 
 pub returns-in-Ok : goal.returns-in-Ok
@@ -25,6 +25,6 @@ returns-in-Ok g c =
       answer = e;
       after = c.fill.ensures ∙ ap (λ v. loaded v (decoded f) (view c.args.self.now)) e;
       kept = λ h. absurd (let z : ◌≡◌ {A = ℕ} 0 1 = cc in (let w : ⊥ = omega arith in w));
-      well = λ h. subst (WellFormed k) (sym c.fill.ensures) (well k f (λ j. omega (arith, c.type-inv.file j)) h);
-      back = λ h. ap (encoded k.byte) c.fill.ensures ∙ comes_back k f (λ j. omega (arith, c.type-inv.file j)) h;
+      well = λ h. subst (WellFormed k) (sym c.fill.ensures) (well k f (λ j. omega (arith, c.type_inv.file j)) h);
+      back = λ h. ap (encoded k.byte) c.fill.ensures ∙ comes_back k f (λ j. omega (arith, c.type_inv.file j)) h;
     }

@@ -6,14 +6,14 @@ use Rattle.tables.proofs.table.Table.save_cells.Goals as goal
 pub put-at-requires : goal.put-at-requires
 put-at-requires c =
     let ns = vec_items c.args.self.now.cells in
-    let p = cells_more ns c.loop-i.i c.index.result.now c.cell-record.result (omega (arith, c.args.self.now.cells.ok.0)) c.index.ensures c.cell-record.ensures in
-    omega (arith, ap length c.cell-record.ensures, room c.loop-i.out c.loop-i.out c.loop-i.at 0 c.cell-record.result _ _ c.loop-i.out _ p c.loop-i.invariant.1 (omega (arith, c.requires, c.loop-i.auto.out)))
+    let p = cells_more ns c.loop-i.i c.index.result.now c.cell_record.result (omega (arith, c.args.self.now.cells.ok.0)) c.index.ensures c.cell_record.ensures in
+    omega (arith, ap length c.cell_record.ensures, room c.loop-i.out c.loop-i.out c.loop-i.at 0 c.cell_record.result _ _ c.loop-i.out _ p c.loop-i.invariant.1 (omega (arith, c.requires, c.loop-i.auto.out)))
 
 pub loop-i-preserved : goal.loop-i-preserved
 loop-i-preserved c =
     let ns = vec_items c.args.self.now.cells in
-    let p = cells_more ns c.loop-i.i c.index.result.now c.cell-record.result (omega (arith, c.args.self.now.cells.ok.0)) c.index.ensures c.cell-record.ensures in
-    advance c.loop-i.out c.put-at.new.out c.loop-i.at c.put-at.result c.cell-record.result _ _ _ _ p c.loop-i.invariant.1 (omega (arith, c.requires, c.loop-i.auto.out)) c.put-at.ensures.after (omega (arith, ap length c.cell-record.ensures, c.put-at.ensures.next)) c.loop-i.invariant.0
+    let p = cells_more ns c.loop-i.i c.index.result.now c.cell_record.result (omega (arith, c.args.self.now.cells.ok.0)) c.index.ensures c.cell_record.ensures in
+    advance c.loop-i.out c.put-at.new.out c.loop-i.at c.put-at.result c.cell_record.result _ _ _ _ p c.loop-i.invariant.1 (omega (arith, c.requires, c.loop-i.auto.out)) c.put-at.ensures.after (omega (arith, ap length c.cell_record.ensures, c.put-at.ensures.next)) c.loop-i.invariant.0
 
 pub returns : goal.returns
 returns c =

@@ -6,6 +6,6 @@ use Rattle.tables.proofs.table.Table.save_text.Goals as goal
 pub returns : goal.returns
 returns c =
     record {
-      after = both c.args.out.now c.put-at.new.out c.save-statements.new.out c.args.start c.put-at.result c.row.result (thread_row c.args.i c.args.t) _ c.row.ensures refl c.put-at.ensures.after c.put-at.ensures.next c.save-statements.ensures.after c.requires.room;
-      next = omega (arith, c.put-at.ensures.next, c.save-statements.ensures.next);
+      after = both c.args.out.now c.put-at.new.out c.save_statements.new.out c.args.start c.put-at.result c.row.result (thread_row c.args.i c.args.t) _ c.row.ensures refl c.put-at.ensures.after c.put-at.ensures.next c.save_statements.ensures.after c.requires.room;
+      next = omega (arith, c.put-at.ensures.next, c.save_statements.ensures.next);
     }

@@ -4,8 +4,8 @@ use Rattle.tables.proofs.Saves.{threads_more, threads_all}
 use Rattle.records.proofs.Writes.{room, advance, done}
 use Rattle.tables.proofs.table.Table.save_threads.Goals as goal
 
-pub save-text-at-requires : goal.save-text-at-requires
-save-text-at-requires c =
+pub save_text-at-requires : goal.save_text-at-requires
+save_text-at-requires c =
     let ts = vec_items c.args.self.now.texts in
     let ss = vec_items c.args.self.now.statements in
     let i = c.loop-i.i in
@@ -27,7 +27,7 @@ loop-i-preserved c =
     let from = c.loop-i.from in
     let n = c.own-n.result in
     let p = threads_more ts ss i t from n (omega (arith, c.args.self.now.texts.ok.0)) c.index-t.ensures c.own-n.ensures in
-    let q = advance c.loop-i.out c.save-text-at.new.out c.loop-i.at c.save-text-at.result (own_thread_bytes i t from n ss) (thread_bytes (i + 1) ts (from + n) ss) _ _ _ p c.loop-i.invariant.1 (omega (arith, c.requires, c.loop-i.auto.out)) c.save-text-at.ensures.after c.save-text-at.ensures.next c.loop-i.invariant.0 in
+    let q = advance c.loop-i.out c.save_text-at.new.out c.loop-i.at c.save_text-at.result (own_thread_bytes i t from n ss) (thread_bytes (i + 1) ts (from + n) ss) _ _ _ p c.loop-i.invariant.1 (omega (arith, c.requires, c.loop-i.auto.out)) c.save_text-at.ensures.after c.save_text-at.ensures.next c.loop-i.invariant.0 in
     (q.0, q.1, omega (arith, c.own-n.ensures, c.loop-i.invariant.2))
 
 pub returns : goal.returns

@@ -22,7 +22,7 @@ returns-then-at-len c =
     let len = c.args.self.now.statements.ok.0 in
     record {
       value =
-          item_beyond ss x.first x.size c.args.t.0 _ (omega arith) c.saturating-add-at.ensures (omega arith)
+          item_beyond ss x.first x.size c.args.t.0 _ (omega arith) c.saturating_add-at.ensures (omega arith)
           ∙ ap (λ (y : ThreadText). slice_get (take y.size (drop y.first ss)) c.args.t.0) c.text-text.ensures;
       below = search rules;
     }
@@ -34,7 +34,7 @@ returns c =
     let len = c.args.self.now.statements.ok.0 in
     record {
       value =
-          item_there ss x.first x.size c.args.t.0 _ (omega arith) c.saturating-add-at.ensures _ (omega arith) (omega arith) c.index.ensures
+          item_there ss x.first x.size c.args.t.0 _ (omega arith) c.saturating_add-at.ensures _ (omega arith) (omega arith) c.index.ensures
           ∙ ap (λ (y : ThreadText). slice_get (take y.size (drop y.first ss)) c.args.t.0) c.text-text.ensures;
       below = λ _. omega arith;
     }

@@ -22,12 +22,12 @@ returns g c =
     let out = c.args.cells.now in
     let own = length c.cells-own.result.now in
     let room : own ≤ length out = omega (arith, ap length c.cells-own.ensures.value, c.requires.cells) in
-    let len : length c.copy-from-slice.new.self ≡ own = c.copy-from-slice.ensures.len ∙ length-take-le (own - 0) out (omega arith) ∙ (let z : own - 0 ≡ own = omega arith in z) in
+    let len : length c.copy_from_slice.new.self ≡ own = c.copy_from_slice.ensures.len ∙ length-take-le (own - 0) out (omega arith) ∙ (let z : own - 0 ≡ own = omega arith in z) in
     record {
       report = h.report ∙ ap reported e;
       counts = h.counts ∙ ap (λ (r : Played). front r.counts c.args.counts.now) e;
       cells =
-          copied_front xs out c.copy-from-slice.new.self own len c.copy-from-slice.ensures.after
+          copied_front xs out c.copy_from_slice.new.self own len c.copy_from_slice.ensures.after
           ∙ ap (λ n. front (take n xs) out) (ap length c.cells-own.ensures.value)
           ∙ ap (λ (s : State). front (cells_of (program m) s) out) (h.state ∙ ap (λ (r : Played). r.state) e);
     }

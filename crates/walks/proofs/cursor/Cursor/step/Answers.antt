@@ -7,4 +7,4 @@ returns g c =
     let m = g.R.Runner in
     let r = c.args.r.now in
     let p = c.args.self.now.path in
-    record { path = refl; point = arrives (m.outcome r) (m.stands r) c.args.self.now.points p.numbers p.depth c.index-self-top.result c.index-self-top-3.result c.go-on.new.at c.go-on.result c.requires (search rules) (search rules) c.go-on.ensures }
+    record { path = refl; point = arrives (m.outcome r) (m.stands r) c.args.self.now.points p.numbers p.depth c.index-self-top.result c.index-self-top-3.result c.go_on.new.at c.go_on.result c.requires (search rules) (search rules) c.go_on.ensures }

@@ -11,7 +11,7 @@ visit-requires g c = (search rules, omega (arith, c.loop.invariant.0, c.requires
 
 pub loop-preserved : goal.loop-preserved
 loop-preserved g c =
-    let told = c.in-default.ensures in
+    let told = c.in_default.ensures in
     (omega (arith, told.count, c.loop.invariant.0), λ ready tied. (told.leaf ready (c.loop.invariant.1 ready tied)).tied)
 
 pub returns-in-None : goal.returns-in-None
