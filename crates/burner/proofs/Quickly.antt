@@ -1,5 +1,6 @@
 -- What the three calls of Quick come to.
 use Rattle.std.proofs.Common.{◌≡◌, ℕ, Bool, true, false, cond, List, Some, None, Ok, Err, Result, sym, refl, ap, ◌∙◌, subst, arith}
+use Rattle.kinds.specs.declared.kind.Kind.{Ghosts}
 use Rattle.kinds.specs.Meaning.{Meaning}
 use Rattle.agreement.specs.Agreement.{guessed}
 use Rattle.jobs.specs.declared.counts.Counts.{Counts}
@@ -40,5 +41,5 @@ module _ (k : Meaning) (f : List ℕ) (r b : ℕ) where
       ∙ ap (λ x. after_load x (after_rounds (yes_or (rounds_no r)) walked)) q
 
   -- the job behind an accepted Load
-  pub has_loaded : {V : Type 0} (j : Job V) (m : Model) → ◌≡◌ {A = Answer} accepted (question k f) → Keeps k j (load_next (question k f) f m) → Keeps k j (loaded (decoded f))
+  pub has_loaded : {V : Type 0} {G : Ghosts V} (j : Job V G) (m : Model) → ◌≡◌ {A = Answer} accepted (question k f) → Keeps k j (load_next (question k f) f m) → Keeps k j (loaded (decoded f))
   has_loaded j m q h = subst (λ a. Keeps k j (load_next a f m)) (sym q) h

@@ -1,5 +1,6 @@
 -- What Load and Translate make of a job.
 use Rattle.std.proofs.Common.{◌≡◌, ℕ, ◌≤◌, Bool, true, false, cond, ◌&&◌, leb, ◌⊎◌, List, Some, None, Ok, Err, Result, sym, refl, ap, ◌∙◌, subst, inl, inr, ⊎_elim, arith}
+use Rattle.kinds.specs.declared.kind.Kind.{Ghosts}
 use native.Mathlib.Bridge.{le_prop}
 use Rattle.std.proofs.lemmas.Bool.{cases_Bool, leb-true, and_parts}
 use Rattle.kinds.specs.Meaning.{Meaning}
@@ -21,11 +22,11 @@ use Rattle.jobs.specs.Counts.{yes_or}
 use Rattle.jobs.specs.Keeps.{Keeps, HasProgram, HasTranslation}
 use Rattle.jobs.specs.Models.{Model, empty, loaded, translated, few, load_next, rounds_no, translate_answer, translate_next}
 
-module _ {V : Type 0} (k : Meaning) (j : Job V) where
-  abbrev with_threads : Machine V → Job V
+module _ {V : Type 0} {G : Ghosts V} (k : Meaning) (j : Job V G) where
+  abbrev with_threads : Machine V G → Job V G
   with_threads t = record { stage = j.stage; threads = t; sequential = j.sequential; walk = j.walk; survey = j.survey }
 
-  abbrev with_table : Table → j.threads.rounds ≤ 8 → Machine V
+  abbrev with_table : Table → j.threads.rounds ≤ 8 → Machine V G
   with_table t few = record { table = t; rounds = j.threads.rounds; kind = j.threads.kind; few = few }
 
   pub load_refused : (t : Table) (le : j.threads.rounds ≤ 8) (f : List ℕ) (e : LoadError) → t ≡ j.threads.table → Err e ≡ question k f → (m : Model) → Keeps k j m → Keeps k (with_threads (with_table t le)) (load_next (question k f) f m)
@@ -47,7 +48,7 @@ module _ {V : Type 0} (k : Meaning) (j : Job V) where
       decide true q = refl
       decide false q = absurd (let z : ◌≡◌ {A = ℕ} 0 1 = cc in omega arith)
 
-  pub translate_refused : (t : Machine V) (r : ℕ) (e : Refusal) → t ≡ j.threads → Err e ≡ rounds_asked r → (j.stage ≡ Empty → ⊥) → (m : Model) → Keeps k j m → (Err e ≡ translate_answer m r) × Keeps k (with_threads t) (translate_next m r)
+  pub translate_refused : (t : Machine V G) (r : ℕ) (e : Refusal) → t ≡ j.threads → Err e ≡ rounds_asked r → (j.stage ≡ Empty → ⊥) → (m : Model) → Keeps k j m → (Err e ≡ translate_answer m r) × Keeps k (with_threads t) (translate_next m r)
   translate_refused t r e et q some empty h = absurd (some h)
   translate_refused t r e et q some (loaded p) h =
       let f = few_false r e q in
@@ -57,7 +58,7 @@ module _ {V : Type 0} (k : Meaning) (j : Job V) where
       (ap Err f.1 ∙ sym (ap (λ b. yes_or (cond b None (Some Rounds))) f.0), subst (λ b. Keeps k (with_threads t) (cond b (translated p r 0 0) (translated p n v u))) (sym f.0) (subst (λ x. Keeps k (with_threads x) (translated p n v u)) (sym et) h))
 
   -- the translation of the program that there is, over r rounds
-  made : (t : Machine V) (r : ℕ) (x : Job V) → t.table ≡ j.threads.table → t.rounds ≡ rounds_after r j.threads.rounds → few r ≡ true → (WellFormed k (program t) → 1 ≤ t.rounds → HasTranslation k x (program t) t.rounds 0 0)
+  made : (t : Machine V G) (r : ℕ) (x : Job V G) → t.table ≡ j.threads.table → t.rounds ≡ rounds_after r j.threads.rounds → few r ≡ true → (WellFormed k (program t) → 1 ≤ t.rounds → HasTranslation k x (program t) t.rounds 0 0)
       → (p : Program) → program j.threads ≡ p → WellFormed k p → HasTranslation k x p r 0 0
   made t r x et er good make p ep w =
       let same : program t ≡ p = ap view et ∙ ep in
@@ -65,7 +66,7 @@ module _ {V : Type 0} (k : Meaning) (j : Job V) where
       let some : 1 ≤ r = leb-true 1 r (and_parts (leb 1 r) (leb r 8) good).0 in
       subst (λ q. HasTranslation k x q r 0 0) same (subst (λ n. HasTranslation k x (program t) n 0 0) rounds (make (subst (WellFormed k) (sym same) w) (omega arith)))
 
-  pub translate_made : (t : Machine V) (r : ℕ) (x : Job V) → (t.table ≡ j.threads.table) × (t.rounds ≡ rounds_after r j.threads.rounds) → Ok tt ≡ rounds_asked r → (j.stage ≡ Empty → ⊥)
+  pub translate_made : (t : Machine V G) (r : ℕ) (x : Job V G) → (t.table ≡ j.threads.table) × (t.rounds ≡ rounds_after r j.threads.rounds) → Ok tt ≡ rounds_asked r → (j.stage ≡ Empty → ⊥)
       → (WellFormed k (program t) → 1 ≤ t.rounds → HasTranslation k x (program t) t.rounds 0 0) → (m : Model) → Keeps k j m → (Ok tt ≡ translate_answer m r) × Keeps k x (translate_next m r)
   translate_made t r x e q some make empty h = absurd (some h)
   translate_made t r x e q some make (loaded p) h =

@@ -1,5 +1,6 @@
 -- What Play, Drive and Found tell of a translated job.
 use Rattle.std.proofs.Common.{◌≡◌, ℕ, List, length, Some, None, Ok, Err, Option, Result, sym, refl, ap, ◌∙◌, subst, ap₂}
+use Rattle.kinds.specs.declared.kind.Kind.{Ghosts}
 use Rattle.agreement.specs.Agreement.{Told, play_told}
 use Rattle.kinds.specs.Meaning.{Meaning, Lawful}
 use Rattle.records.specs.declared.refusal.Refusal.{Refusal}
@@ -32,7 +33,7 @@ use Rattle.jobs.proofs.Standing.{guessed_is}
 lent_same : (a b : Result Report Refusal) (c d e f : List ℕ) → a ≡ b → c ≡ d → e ≡ f → lent_as a c e ≡ lent_as b d f
 lent_same a b c d e f p q r = ap₂ (λ a c. lent_as a c e) p q ∙ ap (lent_as b d) r
 
-module _ {V : Type 0} (k : Meaning) (j : Job V) (ns counts cells : List ℕ) where
+module _ {V : Type 0} {G : Ghosts V} (k : Meaning) (j : Job V G) (ns counts cells : List ℕ) where
   -- Play on the program and the rounds that the machine has
   abbrev plays_so : Program → ℕ → Lent
   plays_so p r = lent (refusal ns counts cells (length p.cells)) (play_told k p r ns) counts cells
@@ -52,7 +53,7 @@ module _ {V : Type 0} (k : Meaning) (j : Job V) (ns counts cells : List ℕ) whe
   abbrev drives_as : List ℕ → Driven → Lent
   drives_as codes d = lent (refusal ns counts cells (length codes)) (record { report = sequences.reported d; counts = d.counts; cells = own_cells codes d.state }) counts cells
 
-  abbrev seq : Sequence V
+  abbrev seq : Sequence V G
   seq = j.sequential.sequence
 
   abbrev no_drive : Option Refusal
@@ -65,7 +66,7 @@ module _ {V : Type 0} (k : Meaning) (j : Job V) (ns counts cells : List ℕ) whe
   pub drive_lawful : Lawful k → (p : Program) (r v u : ℕ) → HasTranslation k j p r v u → LawfulCodes k (drives.cells_of p (drive k p r ns).state)
   drive_lawful laws p r v u h = drive_codes k laws p h.exists r ns
 
-module _ {V : Type 0} (k : Meaning) (j : Job V) (guesses schedule : List ℕ) where
+module _ {V : Type 0} {G : Ghosts V} (k : Meaning) (j : Job V G) (guesses schedule : List ℕ) where
   abbrev tally : Tally
   tally = j.walk.tally
 

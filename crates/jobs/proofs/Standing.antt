@@ -1,5 +1,6 @@
 -- What a translated job's machines come to, and how Walk and Survey go on.
 use Rattle.std.proofs.Common.{◌≡◌, ℕ, ◌≤◌, ◌⊎◌, List, Ok, Err, Result, sym, refl, ap, ◌∙◌, subst, ap₂, inl, inr, ⊎_elim, arith}
+use Rattle.kinds.specs.declared.kind.Kind.{Ghosts}
 use mathlib.Core.Path.{fun_ext}
 use Rattle.agreement.specs.Agreement.{scheduled, guessed}
 use Rattle.kinds.specs.Meaning.{Meaning}
@@ -32,7 +33,7 @@ apart s t (inl h) e = absurd (let z : Empty ≡ Loaded = sym h.0 ∙ e ∙ h.1 i
 apart s t (inr (inl h)) e = absurd (let z : Empty ≡ Translated = sym h.0 ∙ e ∙ h.1 in (let w : ◌≡◌ {A = ℕ} 0 1 = cc in omega arith))
 apart s t (inr (inr h)) e = absurd (let z : Loaded ≡ Translated = sym h.0 ∙ e ∙ h.1 in (let w : ◌≡◌ {A = ℕ} 0 1 = cc in omega arith))
 
-module _ {V : Type 0} (k : Meaning) (j : Job V) where
+module _ {V : Type 0} {G : Ghosts V} (k : Meaning) (j : Job V G) where
   -- a job whose stage is not Translated has no translation
   pub untranslated : {X : Type 0} (p : Program) (r v u : ℕ) → (j.stage ≡ Empty) ⊎ (j.stage ≡ Loaded) → HasTranslation k j p r v u → X
   untranslated p r v u (inl e) h = apart j.stage Translated (inr (inl (e, refl))) h.stage
@@ -69,10 +70,10 @@ module _ {V : Type 0} (k : Meaning) (j : Job V) where
   survey_refused b s (loaded p) h = (refl, h)
   survey_refused b s (translated p r v u) h = untranslated p r v u s h
 
-  abbrev with_walk : Walk SeqPoint → Job V
+  abbrev with_walk : Walk SeqPoint → Job V G
   with_walk x = record { stage = j.stage; threads = j.threads; sequential = j.sequential; walk = x; survey = j.survey }
 
-  abbrev with_survey : Walk Point → Job V
+  abbrev with_survey : Walk Point → Job V G
   with_survey x = record { stage = j.stage; threads = j.threads; sequential = j.sequential; walk = j.walk; survey = x }
 
   pub walk_goes : (b : ℕ) (x : Walk SeqPoint) (a : Result Counts Refusal)

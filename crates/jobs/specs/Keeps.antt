@@ -1,5 +1,6 @@
 -- What ties a job to its model.
 use Rattle.std.specs.Prelude.{◌≡◌, ℕ, ◌≤◌, List}
+use Rattle.kinds.specs.declared.kind.Kind.{Ghosts}
 use Rattle.kinds.specs.Meaning.{Meaning}
 use Rattle.guesses.specs.Points as guesses
 use Rattle.sequences.specs.Sequences.{Holds, drives_so}
@@ -15,7 +16,7 @@ use Rattle.jobs.specs.declared.job.Stage.{Stage}
 use Rattle.jobs.specs.declared.job.Stage.TheVariants.{Empty, Loaded, Translated}
 use Rattle.jobs.specs.Models.{Model, empty, loaded, translated}
 
-module _ {V : Type 0} (k : Meaning) (j : Job V) where
+module _ {V : Type 0} {G : Ghosts V} (k : Meaning) (j : Job V G) where
   pub record HasProgram (p : Program) : Type 0 where
     pub stage : j.stage ≡ Loaded
     pub program : program j.threads ≡ p

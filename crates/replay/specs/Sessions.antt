@@ -1,5 +1,6 @@
 -- What a session holds, and what its calls answer and leave.
 use Rattle.std.specs.Prelude.{ℕ, List, Some, None, Ok, Err, Option, Result}
+use Rattle.kinds.specs.declared.kind.Kind.{Ghosts}
 use Rattle.records.specs.declared.refusal.Refusal.{Refusal}
 use Rattle.records.specs.declared.refusal.Refusal.TheVariants.{NotLoaded, NotTranslated}
 use Rattle.tables.specs.Program.{Program, bare}
@@ -16,7 +17,7 @@ pub record Held : Type 0 where
 abbrev pub holds : Stage → Program → ℕ → Held
 holds s p k = record { stage = s; program = p; rounds = k }
 
-abbrev pub held : {V : Type 0} → Session V → Held
+abbrev pub held : {V : Type 0} {G : Ghosts V} → Session V G → Held
 held s = holds s.stage (program s.machine) s.machine.rounds
 
 -- a new session

@@ -1,5 +1,6 @@
 -- A machine on the program of a file.
 use Rattle.std.specs.Prelude.{◌≡◌, ℕ, List, Ok, Err, Result}
+use Rattle.kinds.specs.declared.kind.Kind.{Ghosts}
 use Rattle.kinds.specs.Meaning.{Meaning}
 use Rattle.questions.specs.Answer.{accepted}
 use Rattle.questions.specs.Question.{question}
@@ -11,7 +12,7 @@ use Rattle.surveys.specs.declared.setup.Problem.{Problem}
 use Rattle.surveys.specs.declared.setup.Problem.TheVariants.{Memory, File, Call}
 
 -- a machine on the program of a file, with so many rounds, or the first no of Load and then of the rounds
-abbrev pub Made : {V : Type 0} → Meaning → List ℕ → ℕ → Result (Machine V) Problem → Type 0
+abbrev pub Made : {V : Type 0} {G : Ghosts V} → Meaning → List ℕ → ℕ → Result (Machine V G) Problem → Type 0
 Made k f rounds (Ok m) = (question k f ≡ accepted) × (rounds_asked rounds ≡ Ok tt) × (program m ≡ decoded f) × (m.rounds ≡ rounds) × Ready k m
 Made k f rounds (Err Memory) = Unit {0}
 Made k f rounds (Err (File e)) = question k f ≡ Err e

@@ -1,5 +1,6 @@
 -- What a machine is told.
 use Rattle.std.specs.Prelude.{ℕ, Bool, cond, ◌&&◌, List, Ok, Err, Result, nat_le}
+use Rattle.kinds.specs.declared.kind.Kind.{Ghosts}
 use Rattle.records.specs.declared.refusal.Refusal.{Refusal}
 use Rattle.records.specs.declared.refusal.Refusal.TheVariants.{Rounds}
 use Rattle.kinds.specs.Meaning.{Meaning}
@@ -20,16 +21,16 @@ abbrev pub rounds_after : ℕ → ℕ → ℕ
 rounds_after k old = cond (few k) k old
 
 -- the program in a machine's table, and how many slots its runs have
-abbrev pub program : {V : Type 0} → Machine V → Program
+abbrev pub program : {V : Type 0} {G : Ghosts V} → Machine V G → Program
 program m = view m.table
 
-abbrev pub total : {V : Type 0} → Machine V → ℕ
+abbrev pub total : {V : Type 0} {G : Ghosts V} → Machine V G → ℕ
 total m = slot_total (program m) m.rounds
 
 -- what a list of numbers comes to on a machine
-abbrev pub plays : {V : Type 0} → Meaning → Machine V → List ℕ → Played
+abbrev pub plays : {V : Type 0} {G : Ghosts V} → Meaning → Machine V G → List ℕ → Played
 plays k m ns = play k (program m) m.rounds ns
 
 -- the cells that a list of numbers leaves
-abbrev pub cells_left : {V : Type 0} → Meaning → Machine V → List ℕ → List ℕ
+abbrev pub cells_left : {V : Type 0} {G : Ghosts V} → Meaning → Machine V G → List ℕ → List ℕ
 cells_left k m ns = cells_of (program m) (plays k m ns).state

@@ -4,6 +4,7 @@ use Rattle.std.proofs.Common.{sym, ap, subst, ◌∙◌, append_assoc, arith}
 use Rattle.std.proofs.lemmas.Nat.{mul-le}
 use Rattle.std.proofs.lemmas.List.FromFn.{length-map-range_with_len}
 use Rattle.std.proofs.lemmas.Bool.{cond_both, ltb-true, ltb-false, lt-ltb, le-ltb}
+use Rattle.kinds.specs.declared.kind.Kind.{Ghosts}
 use Rattle.kinds.specs.Meaning.{Meaning}
 use Rattle.records.specs.declared.statement.Statement.{Statement}
 use Rattle.records.specs.declared.statement.Thread.{Thread}
@@ -83,7 +84,7 @@ module _ (k : Meaning) (p : Program) (w : WellFormed k p) where
       least : (r t : ℕ) → 1 ≤ r → 1 ≤ t → 0 < r * t
       least r t h l = mul-le 1 1 r t h l
 
-module _ {V : Type 0} (k : Meaning) (m : Machine V) where
+module _ {V : Type 0} {G : Ghosts V} (k : Meaning) (m : Machine V G) where
   abbrev p : Program
   p = program m
 

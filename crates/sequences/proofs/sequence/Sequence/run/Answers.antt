@@ -5,8 +5,8 @@ use Rattle.sequences.specs.Strides.{with_point}
 use Rattle.sequences.proofs.Driving.{Running, begins, goes_on, ends_early, ends_late}
 use Rattle.sequences.proofs.sequence.Sequence.run.Goals as goal
 
-pub overflow-add-carried : goal.overflow-add-carried
-overflow-add-carried g c = omega (arith, c.loop-j.invariant.small)
+pub overflow_add-carried : goal.overflow_add-carried
+overflow_add-carried g c = omega (arith, c.loop-j.invariant.small)
 
 pub loop-j-init : goal.loop-j-init
 loop-j-init g c = begins g.V.Kind.meaning (instructions c.args.self.now) c.args.at.now c.args.numbers.now c.args.counts.now c.args.start

@@ -6,8 +6,8 @@ use Rattle.threads.specs.Turns.{rest, with_point}
 use Rattle.threads.specs.Running.{Running, begins, goes_on, ends_early, ends_late}
 use Rattle.threads.proofs.machine.Machine.run.Goals as goal
 
-pub overflow-add-carried : goal.overflow-add-carried
-overflow-add-carried g c = omega (arith, c.loop-j.invariant.small)
+pub overflow_add-carried : goal.overflow_add-carried
+overflow_add-carried g c = omega (arith, c.loop-j.invariant.small)
 
 pub loop-j-init : goal.loop-j-init
 loop-j-init g c =

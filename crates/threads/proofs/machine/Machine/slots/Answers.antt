@@ -2,8 +2,8 @@ use Rattle.std.proofs.Common.{◌≡◌, ◌*◌, ◌≤◌, ap, ◌∙◌, arit
 use Rattle.std.proofs.lemmas.Nat.{mul-le}
 use Rattle.threads.proofs.machine.Machine.slots.Goals as goal
 
-pub overflow-mul-result : goal.overflow-mul-result
-overflow-mul-result g c =
+pub overflow_mul-result : goal.overflow_mul-result
+overflow_mul-result g c =
     let h : c.args.self.now.rounds * c.threads.result ≤ 64 = mul-le _ _ 8 8 (omega (arith, c.args.self.now.few)) c.threads.ensures.few in
     omega arith
 
