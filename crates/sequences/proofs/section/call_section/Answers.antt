@@ -19,10 +19,10 @@ loop-step-preserved g c =
     let k = g.V.Kind.meaning in
     let i = c.args.i.0 in
     let code = c.args.code.now in
-    let e = exec_after k i code (length code) c.loop-step.-step c.loop-step.at c.loop-step.count _ _ _ _ _ c.loop-step-test.true c.if-at-code.false c.act_of-act.ensures c.perform.ensures c.in-Go.ensures in
+    let e = exec_after k i code (length code) c.loop-step._step c.loop-step.at c.loop-step.count _ _ _ _ _ c.loop-step-test.true c.if-at-code.false c.act_of-act.ensures c.perform.ensures c.in-Go.ensures in
     let n = c.tally-count.ensures in (
-      c.loop-step.invariant.0 ∙ e ∙ ap (λ d. exec k i code (length code - (c.loop-step.-step + 1)) c.in-Go.to d c.perform.new.state) (sym n),
-      subst (λ d. d ≤ c.loop-step.-step + 1) (sym n) (tally_most c.in-Go.counts c.loop-step.count c.loop-step.-step c.loop-step.invariant.1),
+      c.loop-step.invariant.0 ∙ e ∙ ap (λ d. exec k i code (length code - (c.loop-step._step + 1)) c.in-Go.to d c.perform.new.state) (sym n),
+      subst (λ d. d ≤ c.loop-step._step + 1) (sym n) (tally_most c.in-Go.counts c.loop-step.count c.loop-step._step c.loop-step.invariant.1),
     )
 
 pub returns-then-at-code : goal.returns-then-at-code

@@ -8,4 +8,4 @@ abbrev pub invariant-loop-step : goal.invariant-loop-step
 invariant-loop-step g l =
     let k = g.V.Kind.meaning in
     let s = instructions l.self in
-    proceeds k s l.initial.at.at.0 l.initial.at.state ≡ proceed k s (length (guide_of l.self) - l.-step) l.at.at.0 l.count l.at.state
+    proceeds k s l.initial.at.at.0 l.initial.at.state ≡ proceed k s (length (guide_of l.self) - l._step) l.at.at.0 l.count l.at.state
