@@ -1,6 +1,6 @@
 -- The leaves of a run by count that fail or are full, and those of a run by label, correspond one to one and in order.
 use Rattle.std.proofs.Common.{◌≡◌, ℕ, suc, ◌<◌, true, false, List, [], ◌∷◌, ◌++◌, sym, refl, ap, ◌∙◌, subst, ⊎_elim, arith}
-use Rattle.std.specs.List.{AllByRecursion as All}
+use Rattle.std.specs.List.{AllByRecursion}
 use Rattle.std.proofs.lemmas.List.{append-nil}
 use Rattle.std.proofs.lemmas.Bool.{cases_Bool}
 use Rattle.kinds.specs.Meaning.{Meaning}
@@ -25,7 +25,7 @@ module _ (k : Meaning) (p : Program) (w : WellFormed k p) (A₁ A₂ : List ℕ 
   pub record Meet (l₁ l₂ : List ℕ) : Type 0 where
     pub slots : List ℕ
     pub state : State
-    pub known : All (λ i. i < width state) slots
+    pub known : AllByRecursion (λ i. i < width state) slots
     pub stand : Stand k p A₁ A₂ slots state l₁ l₂
 
   abbrev pub Fit : Rows → Rows → Type 0
@@ -41,7 +41,7 @@ module _ (k : Meaning) (p : Program) (w : WellFormed k p) (A₁ A₂ : List ℕ 
     alone = ap A₁ (sym (append-nil l₁))
 
     -- at a slot that exists
-    grow_slot : (i : ℕ) (rest : List ℕ) (s : State) → i < width s → All (λ i. i < width s) rest → Stand k p A₁ A₂ (i ∷ rest) s l₁ l₂ → created s i ≡ true → Goal b
+    grow_slot : (i : ℕ) (rest : List ℕ) (s : State) → i < width s → AllByRecursion (λ i. i < width s) rest → Stand k p A₁ A₂ (i ∷ rest) s l₁ l₂ → created s i ≡ true → Goal b
     grow_slot i rest s has all stand on =
         let same : Open (bound p s i) ≡ Open b =
         sym (ap (λ (a : Answer). a.outcome) (alone ∙ stand.on₁ [] ∙ ap (λ r. counted l₁ (played_so p r)) (slot_served (serve k p) (bound p) i rest s [] on))) ∙ o₁ in
@@ -50,9 +50,9 @@ module _ (k : Meaning) (p : Program) (w : WellFormed k p) (A₁ A₂ : List ℕ 
         (slot k p w A₁ A₂ below₁ below₂ i rest s l₁ l₂ has
         (λ n m le. stand.on₁ (n ∷ m) ∙ ap (counted l₁) (count_slot k p i rest s n m on le))
         (λ g m le. stand.on₂ (g ∷ m) ∙ ap (counted l₁) (label_slot k p i rest s g m on le))
-        (λ s' m₁ m₂ c wide st. deep m₁ m₂ c (record { slots = rest; state = s'; known = subst (λ n. All (λ i. i < n) rest) (sym wide) all; stand = st })))
+        (λ s' m₁ m₂ c wide st. deep m₁ m₂ c (record { slots = rest; state = s'; known = subst (λ n. AllByRecursion (λ i. i < n) rest) (sym wide) all; stand = st })))
 
-    grow : (slots : List ℕ) (s : State) → All (λ i. i < width s) slots → Stand k p A₁ A₂ slots s l₁ l₂ → Goal b
+    grow : (slots : List ℕ) (s : State) → AllByRecursion (λ i. i < width s) slots → Stand k p A₁ A₂ slots s l₁ l₂ → Goal b
     grow [] s known stand =
         let full : Ended Full ≡ Open b = sym (ap (λ (r : Played). r.outcome) (none_full (serve k p) (bound p) s [])) ∙ sym (ap (λ (a : Answer). a.outcome) (alone ∙ stand.on₁ [])) ∙ o₁ in
         absurd (let z : ◌≡◌ {A = ℕ} 0 1 = cc in omega arith)

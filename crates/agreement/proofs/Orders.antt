@@ -1,7 +1,7 @@
 -- Dictionary order, and rows in that order.
 use Rattle.std.proofs.Common.{◌≡◌, ℕ, zero, suc, ◌<◌, Bool, true, false, cond, ◌⊎◌, List, [], ◌∷◌, ◌++◌, map, length, get_or, take, filter, sym, refl, ap, ◌∙◌, subst, ap₂, subst₂, inl, inr, ⊎_elim, arith}
 use lib.ListN.{length-map}
-use Rattle.std.specs.List.{ContainsAt as Has, AllByRecursion as All}
+use Rattle.std.specs.List.{ContainsAt as Has, AllByRecursion}
 use Rattle.std.proofs.ByRecursion.{All-get_or, all-has, all_kept_by, All-map, All-take, All-weaker}
 use Rattle.std.proofs.lemmas.List.{get_or-map}
 use Rattle.std.proofs.lemmas.Bool.{cases_order}
@@ -87,7 +87,7 @@ ascending_cases xs x y a h g =
     (cases_order h.0 g.0)
 
 -- the rows behind the first, where both have the same rows
-behind_first : (x : List ℕ) (xs ys : Rows) → All (Before x) xs → ((z : List ℕ) → Has (x ∷ xs) z → Has (x ∷ ys) z) → (z : List ℕ) → Has xs z → Has ys z
+behind_first : (x : List ℕ) (xs ys : Rows) → AllByRecursion (Before x) xs → ((z : List ℕ) → Has (x ∷ xs) z → Has (x ∷ ys) z) → (z : List ℕ) → Has xs z → Has ys z
 behind_first x xs ys first sub z h =
     ⊎_elim
     (λ (e : x ≡ z). absurd (never z (subst (λ y. Before y z) e (all-has (Before x) xs z first h))))
@@ -119,11 +119,11 @@ module _ (P Q : List ℕ → Type 0) (f : List ℕ → List ℕ)
     (made : (x : List ℕ) → P x → Q (f x))
     (every : (y : List ℕ) → Q y → (x : List ℕ) × P x × (f x ≡ y))
     (order : (x y : List ℕ) → P x → P y → Before x y → Before (f x) (f y)) where
-  before_map : (x : List ℕ) (xs : Rows) → P x → All P xs → All (Before x) xs → All (Before (f x)) (map f xs)
+  before_map : (x : List ℕ) (xs : Rows) → P x → AllByRecursion P xs → AllByRecursion (Before x) xs → AllByRecursion (Before (f x)) (map f xs)
   before_map x [] p all h = tt
   before_map x (y ∷ xs) p all h = (order x y p all.0 h.0, before_map x xs p all.1 h.1)
 
-  ascending_map : (xs : Rows) → All P xs → Ascending xs → Ascending (map f xs)
+  ascending_map : (xs : Rows) → AllByRecursion P xs → Ascending xs → Ascending (map f xs)
   ascending_map [] all a = tt
   ascending_map (x ∷ xs) all a = (before_map x xs all.0 all.1 a.0, ascending_map xs all.1 a.1)
 

@@ -1,6 +1,6 @@
 -- Both machines on one program: their failing leaves correspond, and so do their full ones.
 use Rattle.std.specs.Prelude.{◌≡◌, ℕ, ◌≤◌, ◌⊎◌, List, length}
-use Rattle.std.specs.List.{ContainsAt as Has, AllByRecursion as All}
+use Rattle.std.specs.List.{ContainsAt as Has, AllByRecursion}
 use Rattle.kinds.specs.Meaning.{Meaning}
 use Rattle.tables.specs.Program.{Program}
 use Rattle.tables.specs.WellFormed.{WellFormed}
@@ -23,7 +23,7 @@ LeafOf e out l = Leaf out l × (out l ≡ Ended e)
 
 -- The rows are the lists with a property, all of them and each once, in dictionary order.
 pub record Enumerates (P : List ℕ → Type 0) (rows : List (List ℕ)) : Type 0 where
-  pub only : All P rows
+  pub only : AllByRecursion P rows
   pub every : (s : List ℕ) → P s → Has rows s
   pub order : Ascending rows
 
@@ -31,7 +31,7 @@ pub record Enumerates (P : List ℕ → Type 0) (rows : List (List ℕ)) : Type 
 abbrev pub NotAfter : List ℕ → List ℕ → Type 0
 NotAfter x y = Before y x → ⊥
 
--- All that a run is told: what is reported of it, its slot counts, and the codes in the program's cells.
+-- AllByRecursion that a run is told: what is reported of it, its slot counts, and the codes in the program's cells.
 pub record Told : Type 0 where
   pub report : Report
   pub counts : List ℕ

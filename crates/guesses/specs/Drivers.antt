@@ -2,7 +2,7 @@
 use Rattle.std.specs.Prelude.{◌≡◌, ℕ, zero, suc, ◌+◌, ◌-◌, ◌<◌, ◌≤◌, Bool, true, false, cond, ◌⊎◌, List, [], ◌∷◌, ◌++◌, length, drop, Some, None, Option, ◌==◌, ◌≢◌, nat_lt}
 use Rattle.std.proofs.Math.Path.{refl, ap}
 use Rattle.std.proofs.Common.{sym, ap₂, subst, ◌∙◌, inl, inr, ⊎_elim, arith, length-drop}
-use Rattle.std.specs.List.{AllByRecursion as All}
+use Rattle.std.specs.List.{AllByRecursion}
 use Rattle.std.proofs.lemmas.Bool.{cases_lt, cases_eq, cases_Bool, lt-ltb, le-ltb}
 use Rattle.kinds.specs.Meaning.{Meaning}
 use Rattle.records.specs.declared.statement.Statement.{Statement}
@@ -138,7 +138,7 @@ module _ (k : Meaning) (p : Program) (w : WellFormed k p) (rounds : ℕ) where
   slot_way more₁ more₂ n true e = ap (λ n. cond (n == 0) more₁ more₂) e
   slot_way more₁ more₂ n false e = ap (λ n. cond (n == 0) more₁ more₂) e
 
-  proceed_arrives : (rest : List ℕ) (steps h c : ℕ) (s : State) (cs : ℕ) → Before rest h → All (λ i. i < 8) rest → Sized s → length (driver_from p rest h) ≤ steps
+  proceed_arrives : (rest : List ℕ) (steps h c : ℕ) (s : State) (cs : ℕ) → Before rest h → AllByRecursion (λ i. i < 8) rest → Sized s → length (driver_from p rest h) ≤ steps
       → proceed k sq steps h c (seen s cs) ≡ arrives rest h c s cs
   proceed_arrives [] zero h c s cs at known z enough = absurd (let z : ⊥ = omega arith in z)
   proceed_arrives [] (suc steps) h c s cs at known z enough = step_at steps h c (seen s cs) op.End [] at
@@ -172,7 +172,7 @@ module _ (k : Meaning) (p : Program) (w : WellFormed k p) (rounds : ℕ) where
   abbrev behind : ℕ → Answer → Answer
   behind c a = record { outcome = a.outcome; counts = c ∷ a.counts; cells = a.cells }
 
-  module _ (i : ℕ) (rest : List ℕ) (h : ℕ) (at : Before (i ∷ rest) h) (has : i < 8) (known : All (λ i. i < 8) rest) (s : State) (z : Sized s) (cs : ℕ) where
+  module _ (i : ℕ) (rest : List ℕ) (h : ℕ) (at : Before (i ∷ rest) h) (has : i < 8) (known : AllByRecursion (λ i. i < 8) rest) (s : State) (z : Sized s) (cs : ℕ) where
     abbrev q : SeqState
     q = seen s cs
 
@@ -254,7 +254,7 @@ module _ (k : Meaning) (p : Program) (w : WellFormed k p) (rounds : ℕ) where
           ∙ sym (ap (λ b. let r = cond b (ran (slot_of slot_end.Cut 0) s) (until k p (thread i) (label s i + g) g 0 s) in played_so p (closed r (λ s'. paces k p rest s' ns) r.slot.end)) in_bound))
           (cases_lt (bound p s i) g)
 
-  driver_runs : (rest : List ℕ) (h c : ℕ) (s : State) (cs : ℕ) → Before rest h → All (λ i. i < 8) rest → Sized s → (ns : List ℕ) → driven_so p (onward (arrives rest h c s cs) ns) ≡ played_so p (paces k p rest s ns)
+  driver_runs : (rest : List ℕ) (h c : ℕ) (s : State) (cs : ℕ) → Before rest h → AllByRecursion (λ i. i < 8) rest → Sized s → (ns : List ℕ) → driven_so p (onward (arrives rest h c s cs) ns) ≡ played_so p (paces k p rest s ns)
   driver_runs [] h c s cs at known z ns = ap (driven_so p) (ended_stays ending.Full c h (seen s cs) ns) ∙ sym (ap (played_so p) (none_full (pace k p) (bound p) s ns))
   driver_runs (i ∷ rest) h c s cs at known z ns =
       ⊎_elim
@@ -272,6 +272,6 @@ module _ (k : Meaning) (p : Program) (w : WellFormed k p) (rounds : ℕ) where
   pub drives_paced : (ns : List ℕ) → drive_answer k p rounds ns ≡ pace_answer k p rounds ns
   drives_paced ns =
       let slots : List ℕ = program_slots p (slot_total p rounds) in
-      let known : All (λ i. i < 8) slots = program_within p rounds (λ i. i < 8) (λ i h. omega (arith, w.threads_few)) in
+      let known : AllByRecursion (λ i. i < 8) slots = program_within p rounds (λ i. i < 8) (λ i h. omega (arith, w.threads_few)) in
       ap (λ (t : Moved). driven_so p (onward t ns)) (ap (proceeds k sq 0) (seen_start k p) ∙ proceed_arrives slots (length guide) 0 0 (beginning k p) 0 refl known (sized_start k p) (omega arith))
       ∙ driver_runs slots 0 0 (beginning k p) 0 refl known (sized_start k p) ns

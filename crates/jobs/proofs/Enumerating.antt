@@ -1,7 +1,7 @@
 -- Numbers of lists: what a count counts, and how it is carried to other lists.
 use Rattle.std.proofs.Common.{◌≡◌, ℕ, ◌≤◌, Bool, true, List, [], ◌∷◌, map, length, take, filter, sym, ap, ◌∙◌, subst}
 use lib.ListN.{length-map}
-use Rattle.std.specs.List.{ContainsAt as Has, AllByRecursion as All}
+use Rattle.std.specs.List.{ContainsAt as Has, AllByRecursion}
 use Rattle.std.proofs.ByRecursion.{all_has_itself, all_kept_by, All-take, All-weaker, kept_by_passes}
 use Rattle.std.proofs.lemmas.List.{take_all}
 use Rattle.std.proofs.lemmas.List.Sums.{length-filter}
@@ -16,7 +16,7 @@ use Rattle.walks.specs.Tallies.{ends_so, count}
 use Rattle.jobs.specs.Counts.{total}
 use Rattle.jobs.specs.Promises.{Number}
 
-all_both : {X : Type 0} (P Q : X → Type 0) (xs : List X) → All P xs → All Q xs → All (λ x. P x × Q x) xs
+all_both : {X : Type 0} (P Q : X → Type 0) (xs : List X) → AllByRecursion P xs → AllByRecursion Q xs → AllByRecursion (λ x. P x × Q x) xs
 all_both P Q [] p q = tt
 all_both P Q (x ∷ xs) p q = ((p.0, q.0), all_both P Q xs p.1 q.1)
 
@@ -47,11 +47,11 @@ module _ (out : List ℕ → Outcome) (e : Ending) (test : Ending → Bool) (pas
   ends_as (Open b) h = absurd (false≢true h)
   ends_as (Ended x) h = ap (λ y. Ended y) (alone x h)
 
-  enumerates : (xs : List (List ℕ)) → All (Leaf out) xs → Ascending xs → Enumerates (λ s. LeafOf e out s × Has xs s) (filter keeps xs)
+  enumerates : (xs : List (List ℕ)) → AllByRecursion (Leaf out) xs → Ascending xs → Enumerates (λ s. LeafOf e out s × Has xs s) (filter keeps xs)
   enumerates xs leaf order =
       let Among : List ℕ → Type 0 = λ s. Leaf out s × Has xs s in
-      let among : All Among (filter keeps xs) = all_kept_by keeps Among xs (all_both (Leaf out) (Has xs) xs leaf (all_has_itself xs)) in
-      let both : All (λ s. Among s × (keeps s ≡ true)) (filter keeps xs) = all_both Among (λ s. keeps s ≡ true) (filter keeps xs) among (kept_by_passes keeps xs) in
+      let among : AllByRecursion Among (filter keeps xs) = all_kept_by keeps Among xs (all_both (Leaf out) (Has xs) xs leaf (all_has_itself xs)) in
+      let both : AllByRecursion (λ s. Among s × (keeps s ≡ true)) (filter keeps xs) = all_both Among (λ s. keeps s ≡ true) (filter keeps xs) among (kept_by_passes keeps xs) in
       record {
         only = All-weaker (λ s. Among s × (keeps s ≡ true)) (λ s. LeafOf e out s × Has xs s) (λ s h. ((h.0.0, ends_as (out s) h.1), h.0.1)) (filter keeps xs) both;
         every = λ s h. has_kept keeps xs s h.1 (ap (ends_so test) h.0.1 ∙ passes);

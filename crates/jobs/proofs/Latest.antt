@@ -1,6 +1,6 @@
 -- The latest failing list, and which failing leaves do not come after it.
 use Rattle.std.proofs.Common.{◌≡◌, ℕ, zero, suc, ◌<◌, ◌≤◌, Bool, true, false, cond, ◌⊎◌, List, [], ◌∷◌, length, get_or, take, Some, None, filter, Option, sym, refl, ap, ◌∙◌, subst, subst₂, inl, inr, ⊎_elim, arith}
-use Rattle.std.specs.List.{ContainsAt as Has, AllByRecursion as All}
+use Rattle.std.specs.List.{ContainsAt as Has, AllByRecursion}
 use Rattle.std.proofs.ByRecursion.{All-from_get_or}
 use Rattle.std.proofs.lemmas.List.{get_or-take, length-take}
 use Rattle.std.proofs.lemmas.List.Sums.{length-filter}
@@ -65,7 +65,7 @@ module _ (out : List ℕ → Outcome) (rows : List (List ℕ)) where
       (λ (other : (failing (get_or rows v []) ≡ false) × (latest out rows v ≡ None)). none_more v i lt (latest_none v other.1 i) other.0)
       (latest_cases v None e)
 
-kept_none : {X : Type 0} (p : X → Bool) (xs : List X) → All (λ x. p x ≡ false) xs → filter p xs ≡ []
+kept_none : {X : Type 0} (p : X → Bool) (xs : List X) → AllByRecursion (λ x. p x ≡ false) xs → filter p xs ≡ []
 kept_none p [] a = refl
 kept_none p (x ∷ xs) a = subst (λ b. cond b (x ∷ filter p xs) (filter p xs) ≡ []) (sym a.0) (kept_none p xs a.1)
 
@@ -77,7 +77,7 @@ module _ (out : List ℕ → Outcome) (v : ℕ) where
   pub none_failed : latest out (leaves out) v ≡ None → count fails out xs ≡ 0
   none_failed e =
       let long = length-take v (leaves out) in
-      let none : All (λ s. failing out (leaves out) s ≡ false) xs =
+      let none : AllByRecursion (λ s. failing out (leaves out) s ≡ false) xs =
       All-from_get_or (λ s. failing out (leaves out) s ≡ false) xs []
       (λ i lt. let under : i < v = omega arith in ap (failing out (leaves out)) (get_or-take v (leaves out) i [] under) ∙ latest_none out (leaves out) v e i under) in
       sym (length-filter (failing out (leaves out)) xs) ∙ ap length (kept_none (failing out (leaves out)) xs none)

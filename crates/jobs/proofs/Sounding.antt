@@ -1,6 +1,6 @@
 -- What lasts in a model from call to call: its program exists, its rounds are few, and no walk is past its leaves.
 use Rattle.std.proofs.Common.{◌≡◌, ℕ, ◌≤◌, Bool, true, false, cond, leb, List, [], ◌∷◌, Some, None, Ok, Err, Option, refl, arith}
-use Rattle.std.specs.List.{AllByRecursion as All}
+use Rattle.std.specs.List.{AllByRecursion}
 use Rattle.std.proofs.lemmas.Bool.{and_parts, leb-true}
 use Rattle.agreement.specs.Agreement.{scheduled, guessed}
 use Rattle.kinds.specs.Meaning.{Meaning}
@@ -68,6 +68,6 @@ module _ (k : Meaning) where
   next_sound m (emit out) g h = h
 
   -- and any list of them
-  pub after_sound : (m : Model) (cs : List Call) → All Given cs → Sound m → Sound (after k m cs)
+  pub after_sound : (m : Model) (cs : List Call) → AllByRecursion Given cs → Sound m → Sound (after k m cs)
   after_sound m [] g h = h
   after_sound m (c ∷ cs) g h = after_sound (next k m c) cs g.1 (next_sound m c g.0 h)

@@ -1,6 +1,6 @@
 -- Counts agree: what is promised of a job behind any list of calls.
 use Rattle.std.specs.Prelude.{◌≡◌, ℕ, List, length, Some, None, Option}
-use Rattle.std.specs.List.{AllByRecursion as All}
+use Rattle.std.specs.List.{AllByRecursion}
 use Rattle.kinds.specs.Meaning.{Meaning, Lawful}
 use Rattle.agreement.specs.Agreement.{LeafOf, NotAfter, Enumerates, OneToOne, scheduled, guessed, schedule}
 use Rattle.records.specs.Lines.{Bytes}
@@ -55,4 +55,4 @@ Given (emit out) = Unit {0}
 
 -- For every kind that keeps its law, and every list of calls on a new job.
 abbrev pub CountsAgree : Type 0
-CountsAgree = (k : Meaning) → Lawful k → (cs : List Call) → All Given cs → Good k (after k empty cs)
+CountsAgree = (k : Meaning) → Lawful k → (cs : List Call) → AllByRecursion Given cs → Good k (after k empty cs)

@@ -1,7 +1,7 @@
 -- The sections of all threads one behind the other.
 use Rattle.std.proofs.Common.{◌≡◌, ℕ, zero, suc, ◌+◌, ◌-◌, ◌*◌, ◌<◌, ◌≤◌, min, Bool, true, false, List, [], ◌∷◌, ◌++◌, length, get_or, take, drop, sym, refl, ap, ◌∙◌, subst, inl, inr, append_assoc, append-nil, arith, length-append}
 use native.Mathlib.Nat.{min-eq_left}
-use Rattle.std.specs.List.{AllByRecursion as All}
+use Rattle.std.specs.List.{AllByRecursion}
 use Rattle.std.proofs.ByRecursion.{All-take, All-drop}
 use Rattle.std.proofs.lemmas.List.{take_all, take-append-le, drop-append-le, drop_all, get_or_append_left, get_or_push}
 use Rattle.std.proofs.lemmas.Bool.{cases_lt}
@@ -142,5 +142,5 @@ module _ (p : Program) where
       }
 
 -- the statements of a thread keep what all statements keep
-pub own_all : (P : Statement → Type 0) (p : Program) (i : ℕ) → All P p.statements → All P (own p i)
+pub own_all : (P : Statement → Type 0) (p : Program) (i : ℕ) → AllByRecursion P p.statements → AllByRecursion P (own p i)
 own_all P p i all = All-take P (size p i) (drop (text_of p i).first p.statements) (All-drop P (text_of p i).first p.statements all)

@@ -1,6 +1,6 @@
 -- A run whose instructions hold lawful codes only leaves lawful codes only.
 use Rattle.std.proofs.Common.{◌≡◌, ℕ, zero, suc, ◌+◌, ◌-◌, Bool, true, false, cond, ◌||◌, eqb, ltb, leb, List, [], ◌∷◌, length, drop, replicate}
-use Rattle.std.specs.List.{AllByRecursion as All}
+use Rattle.std.specs.List.{AllByRecursion}
 use Rattle.std.proofs.ByRecursion.{All-set, All-take, All-drop}
 use Rattle.kinds.specs.Meaning.{Meaning, Lawful}
 use Rattle.records.specs.declared.statement.Place.{Place}

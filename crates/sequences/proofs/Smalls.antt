@@ -1,6 +1,6 @@
 -- A well-formed program is one that can be translated.
 use Rattle.std.proofs.Common.{◌≡◌, ℕ, zero, suc, ◌+◌, ◌<◌, ◌≤◌, List, [], ◌∷◌, length, get_or, take, drop, sym, subst, arith}
-use Rattle.std.specs.List.{AllByRecursion as All}
+use Rattle.std.specs.List.{AllByRecursion}
 use Rattle.std.proofs.ByRecursion.{All-append}
 use Rattle.std.proofs.lemmas.List.{take-append-drop}
 use Rattle.kinds.specs.Meaning.{Meaning}
@@ -30,14 +30,14 @@ module _ (k : Meaning) where
   fit_low m n (Create j) a b f = tt
   fit_low m n (Join j) a b f = omega arith
 
-  numbered_low : (m : Counts) (n : ℕ) (ss : List Statement) → m.mutexes ≤ 8 → m.threads ≤ 8 → Numbered k m n ss → All Low ss
+  numbered_low : (m : Counts) (n : ℕ) (ss : List Statement) → m.mutexes ≤ 8 → m.threads ≤ 8 → Numbered k m n ss → AllByRecursion Low ss
   numbered_low m n [] a b f = tt
   numbered_low m n (s ∷ ss) a b f = (fit_low m n s a b f.0, numbered_low m (n + 1) ss a b f.1)
 
-  threads_low : (cs ms n at : ℕ) (ts : List ThreadText) (ss : List Statement) → ms ≤ 8 → n ≤ 8 → Threads k cs ms n at ts ss → All Low ss
-  threads_low cs ms n at [] ss a b e = subst (All Low) (sym e) tt
+  threads_low : (cs ms n at : ℕ) (ts : List ThreadText) (ss : List Statement) → ms ≤ 8 → n ≤ 8 → Threads k cs ms n at ts ss → AllByRecursion Low ss
+  threads_low cs ms n at [] ss a b e = subst (AllByRecursion Low) (sym e) tt
   threads_low cs ms n at (t ∷ ts) ss a b f =
-      subst (All Low) (take-append-drop t.size ss)
+      subst (AllByRecursion Low) (take-append-drop t.size ss)
       (All-append Low (take t.size ss) (drop t.size ss) (numbered_low _ 0 (take t.size ss) a b f.5) (threads_low cs ms n (at + t.size) ts (drop t.size ss) a b f.6))
 
   threads_small : (cs ms n at : ℕ) (ts : List ThreadText) (ss : List Statement) → Threads k cs ms n at ts ss → (i : ℕ) → (get_or ts i no_text).size ≤ 48

@@ -1,6 +1,6 @@
 -- A sequential program that holds that of a table runs as it does: the driver calls only the table's threads.
 use Rattle.std.proofs.Common.{◌≡◌, ℕ, zero, suc, ◌+◌, ◌-◌, ◌*◌, ◌%◌, ◌<◌, true, false, cond, eqb, ltb, List, [], ◌∷◌, map, length, drop, sym, refl, ap, ◌∙◌, subst, inl, inr, mod-lt, eq-zero-or-pos, mul-zero}
-use Rattle.std.specs.List.{range_with_len, AllByRecursion as All}
+use Rattle.std.specs.List.{range_with_len, AllByRecursion}
 use Rattle.std.proofs.ByRecursion.{All-drop}
 use Rattle.kinds.specs.declared.kind.Kind.{Ghosts}
 use Rattle.kinds.specs.Meaning.{Meaning}
@@ -35,7 +35,7 @@ Agree S R finish = Unit {0}
 Agree S R stray = Unit {0}
 
 abbrev Agrees : (S R : ℕ → List Instruction) → List Instruction → Type 0
-Agrees S R xs = All (λ x. Agree S R (move x)) xs
+Agrees S R xs = AllByRecursion (λ x. Agree S R (move x)) xs
 
 module _ (k : Meaning) (S R : ℕ → List Instruction) where
   first_agree : (xs : List Instruction) → Agrees S R xs → Agree S R (first_move xs)
@@ -102,19 +102,19 @@ module _ (k : Meaning) (S R : ℕ → List Instruction) where
         drive_from_same t.outcome t.point ns
         ∙ ap (λ (u : Moved). drive_from k there u.outcome u.point ns) (proceed_same (length guide) 0 0 _)
 
-  driver_agrees : (p : Program) (is : List ℕ) (h : ℕ) → All (λ i. S i ≡ R i) is → Agrees S R (driver_from p is h)
+  driver_agrees : (p : Program) (is : List ℕ) (h : ℕ) → AllByRecursion (λ i. S i ≡ R i) is → Agrees S R (driver_from p is h)
   driver_agrees p [] h all = (tt, tt)
   driver_agrees p (i ∷ is) h all = (tt, (tt, (all.0, (tt, driver_agrees p is (4 + h) all.1))))
 
 -- every slot has a thread of the program
-slots_within : (t a n : ℕ) (P : ℕ → Type 0) → 0 < t → ((i : ℕ) → i < t → P i) → All P (map (λ q. q % t) (range_with_len a n))
+slots_within : (t a n : ℕ) (P : ℕ → Type 0) → 0 < t → ((i : ℕ) → i < t → P i) → AllByRecursion P (map (λ q. q % t) (range_with_len a n))
 slots_within t a zero P b f = tt
 slots_within t a (suc n) P b f = (f (a % t) (mod-lt a b), slots_within t (a + 1) n P b f)
 
-pub program_within : (p : Program) (rounds : ℕ) (P : ℕ → Type 0) → ((i : ℕ) → i < length p.texts → P i) → All P (program_slots p (slot_total p rounds))
+pub program_within : (p : Program) (rounds : ℕ) (P : ℕ → Type 0) → ((i : ℕ) → i < length p.texts → P i) → AllByRecursion P (program_slots p (slot_total p rounds))
 program_within p rounds P f =
     elim (eq-zero-or-pos (length p.texts)) [
-      | inl z ↦ subst (λ n. All P (map (λ q. q % length p.texts) (range_with_len 0 n))) (sym (ap (λ t. rounds * t) z ∙ mul-zero rounds)) tt
+      | inl z ↦ subst (λ n. AllByRecursion P (map (λ q. q % length p.texts) (range_with_len 0 n))) (sym (ap (λ t. rounds * t) z ∙ mul-zero rounds)) tt
       | inr b ↦ slots_within (length p.texts) 0 (slot_total p rounds) P b f
     ]
 

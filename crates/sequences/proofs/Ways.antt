@@ -1,6 +1,6 @@
 -- One more statement on the way to a label.
 use Rattle.std.proofs.Common.{◌≡◌, ℕ, zero, suc, ◌+◌, ◌-◌, ◌^◌, ◌<◌, ◌≤◌, Bool, true, false, cond, ◌||◌, ltb, List, length, get_or, drop, set, sym, refl, ap, ◌∙◌, inl, inr, arith, get_or-set_other, get_or-set_same}
-use Rattle.std.specs.List.{AllByRecursion as All}
+use Rattle.std.specs.List.{AllByRecursion}
 use Rattle.states.proofs.Codes.{all_or}
 use Rattle.std.proofs.lemmas.List.{drop_more, drop_all}
 use Rattle.std.proofs.lemmas.Bool.{cases_eq, cond_both, ltb-true, ltb-false}
@@ -108,6 +108,6 @@ module _ (p : Program) (i : ℕ) (text : List Statement) where
       let m : l + 1 + (t - (l + 1)) ≡ t = omega arith in
       sym (ap (address_of p i text) (sym m) ∙ f.rest (t - (l + 1)) ∙ address_none l h (t - (l + 1)) (omega arith)))
 
-pub near_all : (n h : ℕ) (at : List ℕ) → h ≤ 1275 → All (λ a. a ≤ 1275) at → (t : ℕ) → cond (ltb t n) (get_or at t 0) h < 2 ^ 15
+pub near_all : (n h : ℕ) (at : List ℕ) → h ≤ 1275 → AllByRecursion (λ a. a ≤ 1275) at → (t : ℕ) → cond (ltb t n) (get_or at t 0) h < 2 ^ 15
 near_all n h at b all t =
     cond_both (ltb t n) (get_or at t 0) h (λ a. a < 2 ^ 15) (λ _. let c = all_or (λ a. a ≤ 1275) at t 0 (omega arith) all in omega arith) (λ _. omega arith)

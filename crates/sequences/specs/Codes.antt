@@ -1,6 +1,6 @@
 -- Which instructions and states hold only lawful codes.
 use Rattle.std.specs.Prelude.{◌≡◌, true, List}
-use Rattle.std.specs.List.{AllByRecursion as All}
+use Rattle.std.specs.List.{AllByRecursion}
 use Rattle.kinds.specs.Meaning.{Meaning}
 use Rattle.states.specs.Codes.{LawfulCodes}
 use Rattle.sequences.specs.declared.instruction.Instruction.{Instruction}
@@ -33,8 +33,8 @@ LawfulInstruction k (op.Save j) = Unit {0}
 LawfulInstruction k op.End = Unit {0}
 
 abbrev pub LawfulSection : Meaning → List Instruction → Type 0
-LawfulSection k xs = All (LawfulInstruction k) xs
+LawfulSection k xs = AllByRecursion (LawfulInstruction k) xs
 
 pub record LawfulState (k : Meaning) (q : SeqState) : Type 0 where
   pub cells : LawfulCodes k q.cells
-  pub locals : All (LawfulCodes k) q.locals
+  pub locals : AllByRecursion (LawfulCodes k) q.locals

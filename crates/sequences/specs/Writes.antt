@@ -1,6 +1,6 @@
 -- The translation as it is written: piece by piece, into a room of its own.
 use Rattle.std.specs.Prelude.{ℕ, ◌+◌, ◌^◌, ◌<◌, ◌≤◌, Bool, cond, List, [], ◌∷◌, ◌++◌, nat_lt, slice_index}
-use Rattle.std.specs.List.{AllByRecursion as All}
+use Rattle.std.specs.List.{AllByRecursion}
 use Rattle.records.specs.declared.statement.Statement.{Statement}
 use Rattle.records.specs.declared.statement.Statement.TheVariants.{Set, Copy, Sum, Difference, Less, Same, Jump, Branch, Assume, Assert, Init, Destroy, Lock, Unlock, Create, Join}
 use Rattle.tables.specs.Program.{Program, size}
@@ -61,7 +61,7 @@ Low (Join j) = j.0 < 240
 -- a program whose instructions have room: at most 48 statements for each thread, and no word above the last
 pub record Translatable (p : Program) : Type 0 where
   pub sizes : (i : ℕ) → size p i ≤ 48
-  pub low : All Low p.statements
+  pub low : AllByRecursion Low p.statements
 
 -- a list of at most n items that may grow to n
 pub record Room (n cap len : ℕ) : Type 0 where

@@ -1,6 +1,6 @@
 // The translation: the section of a thread, and the driver.
 ghost use Rattle.std.specs.Prelude.{◌≡◌, ◌%◌, ◌<◌, ◌≤◌, ◌++◌, length, take, vec_len, vec_capacity};
-ghost use Rattle.std.specs.List.{AllByRecursion as All};
+ghost use Rattle.std.specs.List.{AllByRecursion};
 ghost use Rattle.tables.specs.Program.{own};
 ghost use Rattle.tables.specs.Slots.{slot_total};
 ghost use Rattle.tables.specs.Tables.{view};
@@ -65,7 +65,7 @@ fn write_label(
 pub(crate) fn write_section(code: &mut Vec<Instruction>, table: &Table, i: Thread)
     requires thread { i.0 < 8 }
     requires room { Room 1936 (vec_capacity code.old) (vec_len code.old) }
-    ensures items { All Low (own (view table.now) i.0) → code.new.items ≡ take 1936 (code.old.items ++ section_code (view table.now) i.0) }
+    ensures items { AllByRecursion Low (own (view table.now) i.0) → code.new.items ≡ take 1936 (code.old.items ++ section_code (view table.now) i.0) }
     ensures room { Room 1936 (vec_capacity code.new) (vec_len code.new) }
 {
     let text = table.statements_of(i);

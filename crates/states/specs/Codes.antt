@@ -1,7 +1,7 @@
 -- Which codes are lawful.
 use Rattle.std.specs.Prelude.{◌≡◌, ℕ, true, List}
-use Rattle.std.specs.List.{AllByRecursion as All}
+use Rattle.std.specs.List.{AllByRecursion}
 use Rattle.kinds.specs.Meaning.{Meaning}
 
 abbrev pub LawfulCodes : Meaning → List ℕ → Type 0
-LawfulCodes k cs = All (λ c. k.lawful c ≡ true) cs
+LawfulCodes k cs = AllByRecursion (λ c. k.lawful c ≡ true) cs

@@ -2,7 +2,7 @@
 use Rattle.std.proofs.Common.{◌≡◌, ℕ, zero, suc, ◌+◌, ◌-◌, ◌*◌, ◌/◌, ◌%◌, ◌<◌, ◌≤◌, Bool, true, false, cond, ◌&&◌, eqb, leb, ◌⊎◌, List, [], ◌∷◌, ◌++◌, map, length, get_or, take, drop, filter, sym, refl, ap, ◌∙◌, subst, inl, inr, arith, length-drop, length-take, take-add}
 use lib.ListN.{length-map}
 use Rattle.kinds.specs.Meaning.{Meaning}
-use Rattle.std.specs.List.{range_with_len, AllByRecursion as All}
+use Rattle.std.specs.List.{range_with_len, AllByRecursion}
 use Rattle.std.proofs.lemmas.Bool.{and_parts, leb-true, eqb-true, cases_lt}
 use Rattle.std.proofs.lemmas.List.{get_or-take, get_or-drop, get_or_past, drop-drop, take_all}
 use Rattle.questions.specs.declared.context.Context.{Context}
@@ -53,7 +53,7 @@ whole_line f i h l =
       ];
     }
 
-all_whole : (f : List ℕ) (m n : ℕ) → Bytes f → 10 * (m + n) ≤ length f → All Whole (map (line f) (range_with_len m n))
+all_whole : (f : List ℕ) (m n : ℕ) → Bytes f → 10 * (m + n) ≤ length f → AllByRecursion Whole (map (line f) (range_with_len m n))
 all_whole f m zero h l = tt
 all_whole f m (suc n) h l = (whole_line f m h (omega arith), all_whole f (m + 1) n h (omega arith))
 
@@ -77,7 +77,7 @@ pub record Held (k : Meaning) (m : ℕ) (rs : List (List ℕ)) : Type 0 where
   pub wide : length (filter sc rs) ≤ 16
   pub deep : length (filter th rs) ≤ 8
 
-pub held_rows : (k : Meaning) (r : List ℕ) (rs : List (List ℕ)) → All Whole (r ∷ rs) → follow k start 0 (r ∷ rs) ≡ accepted → Held k (a (body r)) (r ∷ rs)
+pub held_rows : (k : Meaning) (r : List ℕ) (rs : List (List ℕ)) → AllByRecursion Whole (r ∷ rs) → follow k start 0 (r ∷ rs) ≡ accepted → Held k (a (body r)) (r ∷ rs)
 held_rows k r rs w u =
     let v = onward_parts (ask k start r) 0 (follow k (past start r) (0 + 1) rs) u in
     let q = from_asked (pg r) no.Mark 0 (ask_header k (body r)) v.0 in
@@ -93,14 +93,14 @@ held_rows k r rs w u =
     let z = t.0 in
     record { back = cc; wide = omega (arith, ap length k1, c.1, t.1); deep = omega (arith, ap length k2, c.2, t.2) }
 
-pub counted_cells : (k : Meaning) (r : List ℕ) (rs : List (List ℕ)) → All Whole (r ∷ rs) → follow k start 0 (r ∷ rs) ≡ accepted → length (map code (filter sc (r ∷ rs))) ≡ d (body r)
+pub counted_cells : (k : Meaning) (r : List ℕ) (rs : List (List ℕ)) → AllByRecursion Whole (r ∷ rs) → follow k start 0 (r ∷ rs) ≡ accepted → length (map code (filter sc (r ∷ rs))) ≡ d (body r)
 counted_cells k r rs w u =
     let v = onward_parts (ask k start r) 0 (follow k (past start r) (0 + 1) rs) u in
     let q = from_asked (pg r) no.Mark 0 (ask_header k (body r)) v.0 in
     let c = cell_form (begun (body r)) 0 rs (omega arith) (main k (past start r) (0 + 1) rs (past_sound start r tt) (omega arith) w.1 v.1) in
     omega (arith, length-map (filter sc (r ∷ rs)) code, ap length (leave sc r rs (only_pg r q.0).0), c.1)
 
-pub counted_texts : (k : Meaning) (r : List ℕ) (rs : List (List ℕ)) → All Whole (r ∷ rs) → follow k start 0 (r ∷ rs) ≡ accepted → length (texts 0 (filter th (r ∷ rs))) ≡ b (body r)
+pub counted_texts : (k : Meaning) (r : List ℕ) (rs : List (List ℕ)) → AllByRecursion Whole (r ∷ rs) → follow k start 0 (r ∷ rs) ≡ accepted → length (texts 0 (filter th (r ∷ rs))) ≡ b (body r)
 counted_texts k r rs w u =
     let v = onward_parts (ask k start r) 0 (follow k (past start r) (0 + 1) rs) u in
     let q = from_asked (pg r) no.Mark 0 (ask_header k (body r)) v.0 in
@@ -110,16 +110,16 @@ counted_texts k r rs w u =
 pub first_line : (k : Meaning) (f : List ℕ) → question k f ≡ accepted → lines f ≡ line f 0 ∷ drop 1 (lines f)
 first_line k f e = lines_more f 0 (omega (arith, (parts k f e).least))
 
-pub whole_lines : (f : List ℕ) → Bytes f → All Whole (lines f)
+pub whole_lines : (f : List ℕ) → Bytes f → AllByRecursion Whole (lines f)
 whole_lines f h = all_whole f 0 (length f / 10) h (omega arith)
 
 pub held : (k : Meaning) (f : List ℕ) → Bytes f → question k f ≡ accepted → Held k (a (body (line f 0))) (lines f)
 held k f h e =
     let p = parts k f e in
     let l : lines f ≡ line f 0 ∷ drop 1 (lines f) = lines_more f 0 (omega (arith, p.least)) in
-    let w : All Whole (lines f) = all_whole f 0 (length f / 10) h (omega arith) in
+    let w : AllByRecursion Whole (lines f) = all_whole f 0 (length f / 10) h (omega arith) in
     subst (λ rs. Held k (a (body (line f 0))) rs) (sym l)
-    (held_rows k (line f 0) (drop 1 (lines f)) (subst (λ rs. All Whole rs) l w) (sym (ap (follow k start 0) l) ∙ p.run))
+    (held_rows k (line f 0) (drop 1 (lines f)) (subst (λ rs. AllByRecursion Whole rs) l w) (sym (ap (follow k start 0) l) ∙ p.run))
 
 -- a file that Load accepts is the file of the program that it holds
 pub comes_back : (k : Meaning) (f : List ℕ) → Bytes f → question k f ≡ accepted → encoded k.byte (decoded f) ≡ f

@@ -1,7 +1,7 @@
 -- The records of an accepted file are those of the program that it holds.
 use Rattle.std.proofs.Common.{◌≡◌, ℕ, suc, ◌+◌, ◌-◌, ◌<◌, ◌≤◌, Bool, true, false, cond, ◌&&◌, eqb, ltb, List, [], ◌∷◌, ◌++◌, map, length, get_or, take, drop, Ok, Err, filter, sym, refl, ap, ◌∙◌, arith}
 use Rattle.kinds.specs.Meaning.{Meaning}
-use Rattle.std.specs.List.{AllByRecursion as All}
+use Rattle.std.specs.List.{AllByRecursion}
 use Rattle.std.proofs.lemmas.Bool.{cond_both, ltb-true, ltb-false}
 use Rattle.std.proofs.lemmas.Bool.Decides.{nat_tests}
 use Rattle.std.proofs.lemmas.List.{get_or-drop}
@@ -129,7 +129,7 @@ size_past x (due.Thread i) r h w = omega (arith, get_or-drop 2 r 2 0, w.small 4)
 size_past x (due.Statement n) r h w = h
 size_past x due.End r h w = h
 
-pub main : (k : Meaning) (x : Context) (i : ℕ) (rs : List (List ℕ)) → Sound x → x.size < 256 → All Whole rs → follow k x i rs ≡ accepted → Claim x x.due rs
+pub main : (k : Meaning) (x : Context) (i : ℕ) (rs : List (List ℕ)) → Sound x → x.size < 256 → AllByRecursion Whole rs → follow k x i rs ≡ accepted → Claim x x.due rs
 main k x i [] s z w h = none x x.due i h
 main k x i (r ∷ rs) s z w h =
     let p = onward_parts (ask k x r) i (follow k (past x r) (i + 1) rs) h in

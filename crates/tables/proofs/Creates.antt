@@ -1,7 +1,7 @@
 -- No thread is created twice: a CREATE names a thread that none before it has named.
 use Rattle.std.proofs.Common.{◌≡◌, ℕ, ◌+◌, ◌<◌, ◌≤◌, Bool, true, false, cond, not, ◌&&◌, eqb, ltb, leb, List, [], ◌∷◌, map, length, get_or, set, filter, sym, refl, ap, ◌∙◌, subst, inl, inr, arith, length-set}
 use Rattle.kinds.specs.Meaning.{Meaning}
-use Rattle.std.specs.List.{AllByRecursion as All}
+use Rattle.std.specs.List.{AllByRecursion}
 use Rattle.std.proofs.lemmas.List.{get_or-set_same, get_or-set_other}
 use Rattle.std.proofs.lemmas.Bool.{and_parts, cases_eq, cond_both, cond-true, cond-false, eq-eqb, ne_eqb, ltb-true, not-true}
 use Rattle.questions.specs.declared.context.Context.{Context}
@@ -155,12 +155,12 @@ once_front k x (due.Statement n) r rs l h w q ih j =
     omega (arith, ih j, ap (λ us. creates j (map told us)) (keep st r rs p.0))
 once_front k x due.End r rs l h w q ih j = never _ q
 
-once_main : (k : Meaning) (x : Context) (i : ℕ) (rs : List (List ℕ)) → Later x.due → Begun x → All Whole rs → follow k x i rs ≡ accepted → Once x rs
+once_main : (k : Meaning) (x : Context) (i : ℕ) (rs : List (List ℕ)) → Later x.due → Begun x → AllByRecursion Whole rs → follow k x i rs ≡ accepted → Once x rs
 once_main k x i [] l h w e j = omega (arith, mark_few x.created j)
 once_main k x i (r ∷ rs) l h w e j =
     let p = onward_parts (ask k x r) i (follow k (past x r) (i + 1) rs) e in
     once_front k x x.due r rs l h w.0 p.0 (once_main k (past x r) (i + 1) rs (later_past x x.due r l refl) (begun_past x x.due r l w.0 h) w.1 p.1) j
 
-pub once_rows : (k : Meaning) (r : List ℕ) (rs : List (List ℕ)) → b (body r) ≤ 8 → All Whole rs → follow k (begun (body r)) 1 rs ≡ accepted → (j : ℕ) → creates j (map told (filter st rs)) ≤ 1
+pub once_rows : (k : Meaning) (r : List ℕ) (rs : List (List ℕ)) → b (body r) ≤ 8 → AllByRecursion Whole rs → follow k (begun (body r)) 1 rs ≡ accepted → (j : ℕ) → creates j (map told (filter st rs)) ≤ 1
 once_rows k r rs h w e j =
     omega (arith, once_main k (begun (body r)) 1 rs (later_cell (d (body r)) (b (body r)) 0) (record { eight = refl; few = h; low = omega arith }) w e j)

@@ -2,7 +2,7 @@
 use Rattle.std.proofs.Common.{◌≡◌, ℕ, zero, suc, ◌+◌, ◌-◌, ◌*◌, ◌/◌, ◌%◌, ◌^◌, ◌<◌, ◌≤◌, Bool, true, false, not, ◌&&◌, eqb, ltb, leb, List, [], ◌∷◌, ◌++◌, map, length, get_or, take, drop, replicate, refl, ap, ◌∙◌, inl, inr, arith, length-append}
 use lib.ListN.{length-map}
 use Rattle.kinds.specs.Meaning.{Meaning}
-use Rattle.std.specs.List.{range_with_len, AllByRecursion as All}
+use Rattle.std.specs.List.{range_with_len, AllByRecursion}
 use Rattle.std.proofs.lemmas.List.{take_at, drop_at, drop-drop, length-take-le, get_or-replicate, get_or_past}
 use Rattle.std.proofs.ByRecursion.{All-append}
 use Rattle.std.proofs.lemmas.Bool.{and_from, cases_Bool, cases_lt, cond-true, cond-false, eq-eqb, lt-ltb, le-ltb, le-leb, not_from_false}
@@ -33,7 +33,7 @@ use Rattle.tables.proofs.Wells.{wide, wide_back, counts_of}
 use Rattle.records.specs.declared.refusal.Refusal.TheVariants as no
 
 -- the records of a file are the rows that it was made of
-lines_from : (f : List ℕ) (rs : List (List ℕ)) (m : ℕ) → All Ten rs → drop (10 * m) f ≡ flat rs → map (line f) (range_with_len m (length rs)) ≡ rs
+lines_from : (f : List ℕ) (rs : List (List ℕ)) (m : ℕ) → AllByRecursion Ten rs → drop (10 * m) f ≡ flat rs → map (line f) (range_with_len m (length rs)) ≡ rs
 lines_from f [] m h e = refl
 lines_from f (r ∷ rs) m h e =
     let t = take_at r (flat rs) 10 h.0 in
@@ -43,7 +43,7 @@ lines_from f (r ∷ rs) m h e =
     let ih = lines_from f rs (m + 1) h.1 (cc) in
     cc
 
-lines_back : (rs : List (List ℕ)) → All Ten rs → lines (flat rs) ≡ rs
+lines_back : (rs : List (List ℕ)) → AllByRecursion Ten rs → lines (flat rs) ≡ rs
 lines_back rs h =
     let e : length (flat rs) / 10 ≡ length rs = omega (arith, length_flat rs h) in
     ap (λ n. map (line (flat rs)) (range_with_len 0 n)) e ∙ lines_from (flat rs) rs 0 h refl
@@ -162,7 +162,7 @@ header_yes k p w =
 go_on : (v : Verdict) (i : ℕ) (rest : Answer) → v ≡ fine → rest ≡ accepted → onward v i rest ≡ accepted
 go_on v i rest e h = ap (λ u. onward u i rest) e ∙ h
 
-cells_yes : (k : Meaning) (x : Context) (rest : List (List ℕ)) (i n : ℕ) (vs : List ℕ) → n + length vs ≡ x.cells → All (λ v. v < 2 ^ 32) vs → All (λ v. k.lawful v ≡ true) vs → ((m : ℕ) → follow k (due_next x (from_thread x.threads 0)) m rest ≡ accepted) → follow k (due_next x (from_cell x.cells x.threads n)) i (cell_rows n vs ++ rest) ≡ accepted
+cells_yes : (k : Meaning) (x : Context) (rest : List (List ℕ)) (i n : ℕ) (vs : List ℕ) → n + length vs ≡ x.cells → AllByRecursion (λ v. v < 2 ^ 32) vs → AllByRecursion (λ v. k.lawful v ≡ true) vs → ((m : ℕ) → follow k (due_next x (from_thread x.threads 0)) m rest ≡ accepted) → follow k (due_next x (from_cell x.cells x.threads n)) i (cell_rows n vs ++ rest) ≡ accepted
 cells_yes k x rest i n [] e h l g =
     ap (λ u. follow k (due_next x u) i rest) (cond-false (ltb n x.cells) (due.Cell n) (from_thread x.threads 0) (le-ltb n x.cells (omega arith))) ∙ g i
 cells_yes k x rest i n (v ∷ vs) e h l g =
@@ -212,7 +212,7 @@ threads_yes k x i n at (t ∷ ts) ss l e f h =
     (λ c m q g. threads_yes k (renamed z c due.End) m (n + 1) (at + t.size) ts left (record { cells_few = l.cells_few; threads_few = l.threads_few; locals_few = f.0; size_few = f.2; eight = q }) (omega arith) f.6 g))
 
 -- the rows of a program: ten bytes each, and 3 to 409 of them
-ten_threads : (i : ℕ) (ts : List ThreadText) (ss : List Statement) → All Ten (thread_rows i ts ss)
+ten_threads : (i : ℕ) (ts : List ThreadText) (ss : List Statement) → AllByRecursion Ten (thread_rows i ts ss)
 ten_threads i [] ss = tt
 ten_threads i (t ∷ ts) ss =
     (refl, All-append Ten (map statement_row (take t.size ss)) (thread_rows (i + 1) ts (drop t.size ss)) (ten_statements (take t.size ss)) (ten_threads (i + 1) ts (drop t.size ss)))
@@ -241,7 +241,7 @@ accepted_again k p w =
     let hd = header_row k.byte p in
     let cs = cell_rows 0 p.cells in
     let ts = thread_rows 0 p.texts p.statements in
-    let ten : All Ten (rows k.byte p) = (refl, All-append Ten cs ts (ten_cells 0 p.cells) (ten_threads 0 p.texts p.statements)) in
+    let ten : AllByRecursion Ten (rows k.byte p) = (refl, All-append Ten cs ts (ten_cells 0 p.cells) (ten_threads 0 p.texts p.statements)) in
     let x = begun (body hd) in
     let l : Small x = record { cells_few = w.cells_few; threads_few = w.threads_few; locals_few = omega arith; size_few = omega arith; eight = refl } in
     let e = length_flat (rows k.byte p) ten in

@@ -1,7 +1,7 @@
 -- The records of a program, one after another.
 use Rattle.std.proofs.Common.{◌≡◌, ℕ, suc, ◌+◌, ◌-◌, ◌*◌, ◌<◌, ◌≤◌, min, leb, ◌⊎◌, List, [], ◌∷◌, ◌++◌, map, length, get_or, take, drop, Ok, Err, Result, sym, refl, ap, ◌∙◌, inl, inr, append_assoc, arith, length-append}
 use lib.ListN.{length-map}
-use Rattle.std.specs.List.{AllByRecursion as All}
+use Rattle.std.specs.List.{AllByRecursion}
 use Rattle.std.proofs.lemmas.List.{drop_more, drop_all, drop-drop, take_all, length-drop, length-take-le}
 use Rattle.std.proofs.lemmas.Bool.{cases_lt, lt-leb, le-leb, cond-true, cond-false}
 use Rattle.records.specs.declared.statement.Statement.{Statement}
@@ -71,7 +71,7 @@ threads_all ts ss i from h = ap (λ xs. flat (thread_rows i xs (drop from ss))) 
 abbrev pub Ten : List ℕ → Type 0
 Ten r = length r ≡ 10
 
-pub length_flat : (rs : List (List ℕ)) → All Ten rs → length (flat rs) ≡ 10 * length rs
+pub length_flat : (rs : List (List ℕ)) → AllByRecursion Ten rs → length (flat rs) ≡ 10 * length rs
 length_flat [] h = refl
 length_flat (r ∷ rs) h = omega (arith, length-append r (flat rs), length_flat rs h.1)
 
@@ -93,7 +93,7 @@ length_statement_row (Unlock p) = refl
 length_statement_row (Create p) = refl
 length_statement_row (Join p) = refl
 
-pub ten_statements : (ss : List Statement) → All Ten (map statement_row ss)
+pub ten_statements : (ss : List Statement) → AllByRecursion Ten (map statement_row ss)
 ten_statements [] = tt
 ten_statements (s ∷ ss) = (length_statement_row s, ten_statements ss)
 
@@ -107,7 +107,7 @@ length_text i t ss from n h =
     let m = length-take-le n (drop from ss) (omega (arith, length-drop from ss)) in
     omega (arith, length-append (thread_row i t) (flat (map statement_row (take n (drop from ss)))))
 
-pub ten_cells : (i : ℕ) (ns : List ℕ) → All Ten (cell_rows i ns)
+pub ten_cells : (i : ℕ) (ns : List ℕ) → AllByRecursion Ten (cell_rows i ns)
 ten_cells i [] = tt
 ten_cells i (n ∷ ns) = (refl, ten_cells (i + 1) ns)
 

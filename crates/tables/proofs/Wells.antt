@@ -2,7 +2,7 @@
 use Rattle.std.proofs.Common.{◌≡◌, ℕ, suc, ◌+◌, ◌-◌, ◌*◌, ◌/◌, ◌%◌, ◌^◌, ◌<◌, ◌≤◌, Bool, true, false, cond, not, ◌&&◌, eqb, ltb, leb, List, [], ◌∷◌, ◌++◌, map, length, take, drop, filter, sym, refl, ap, ◌∙◌, subst, suc-le-suc, arith}
 use native.Mathlib.Nat.{div-div-eq-div-mul}
 use Rattle.kinds.specs.Meaning.{Meaning}
-use Rattle.std.specs.List.{AllByRecursion as All}
+use Rattle.std.specs.List.{AllByRecursion}
 use Rattle.std.proofs.lemmas.List.{get_or-drop}
 use Rattle.std.proofs.ByRecursion.{All-map, all_kept_by, All-weaker}
 use Rattle.std.proofs.lemmas.Bool.{and_parts, cond_both, leb-true, ltb-true, ltb-false}
@@ -102,7 +102,7 @@ abbrev Left : Meaning → Context → List (List ℕ) → List s.Statement → T
 Left k x hs ss = (at : ℕ) → Threads k x.cells x.mutexes x.threads at (texts at hs) ss
 
 abbrev WCells : Meaning → Context → List (List ℕ) → Type 0
-WCells k x rs = All (λ v. k.lawful v ≡ true) (map code (filter sc rs)) × Left k x (filter th rs) (map told (filter st rs))
+WCells k x rs = AllByRecursion (λ v. k.lawful v ≡ true) (map code (filter sc rs)) × Left k x (filter th rs) (map told (filter st rs))
 
 abbrev WTexts : Meaning → Context → List (List ℕ) → Type 0
 WTexts k x rs = (filter sc rs ≡ []) × Left k x (filter th rs) (map told (filter st rs))
@@ -134,7 +134,7 @@ w_text k x i rs =
 w_cell : (k : Meaning) (x : Context) (n : ℕ) (rs : List (List ℕ)) → WClaim k x (from_cell x.cells x.threads n) rs → WCells k x rs
 w_cell k x n rs =
     cond_both (ltb n x.cells) (due.Cell n) (from_thread x.threads 0) (λ e. WClaim k x e rs → WCells k x rs) (λ _ q. q)
-    (λ _ q. let t = w_text k x 0 rs q in (subst (λ zs. All (λ v. k.lawful v ≡ true) (map code zs)) (sym t.0) tt, t.1))
+    (λ _ q. let t = w_text k x 0 rs q in (subst (λ zs. AllByRecursion (λ v. k.lawful v ≡ true) (map code zs)) (sym t.0) tt, t.1))
 
 w_statement : (k : Meaning) (x : Context) (n : ℕ) (rs : List (List ℕ)) → WClaim k x (from_statement x.size x.threads x.thread n) rs → WStatements k x n rs
 w_statement k x n rs =
@@ -152,7 +152,7 @@ w_front k x (due.Cell n) r rs s z w q ih =
     let o = only_sc r p.0 in
     let u = from_asked (eqb (op (body r)) n) no.Index 2 (then (unused (uses false false false true) (body r)) (asked (k.lawful (c (body r))) no.Code 6 fine)) p.1 in
     let v = from_asked (k.lawful (c (body r))) no.Code 6 fine (from_then (unused (uses false false false true) (body r)) (asked (k.lawful (c (body r))) no.Code 6 fine) u.1).1 in
-    (subst (λ zs. All (λ v. k.lawful v ≡ true) (map code zs)) (sym (keep sc r rs p.0)) (v.0, t.0), moved k x (filter th (r ∷ rs)) (filter th rs) (filter st (r ∷ rs)) (filter st rs) (leave th r rs o.0) (leave st r rs o.1) t.1)
+    (subst (λ zs. AllByRecursion (λ v. k.lawful v ≡ true) (map code zs)) (sym (keep sc r rs p.0)) (v.0, t.0), moved k x (filter th (r ∷ rs)) (filter th rs) (filter st (r ∷ rs)) (filter st rs) (leave th r rs o.0) (leave st r rs o.1) t.1)
 w_front k x (due.Thread i) r rs s z w q ih =
     let p = from_asked (th r) no.Mark 0 (ask_thread i (body r)) q in
     let t = w_statement k (passes x (due.Thread i) r) 0 rs ih in
@@ -175,7 +175,7 @@ w_front k x (due.Statement n) r rs s z w q ih =
     (leave sc r rs o.0 ∙ t.0, subst (λ ts. Open k x n (x.size - n) ts (map told (filter st (r ∷ rs)))) (sym (leave th r rs o.1)) (subst (λ zs. Open k x n (x.size - n) (filter th rs) (map told zs)) (sym (keep st r rs p.0)) (subst (λ m. Open k x n m (filter th rs) (told r ∷ ss)) y (suc-le-suc t.1.0, (f, t.1.1), t.1.2))))
 w_front k x due.End r rs s z w q ih = absurd (let z : ◌≡◌ {A = ℕ} 0 1 = cc in omega arith)
 
-w_main : (k : Meaning) (x : Context) (i : ℕ) (rs : List (List ℕ)) → Sound x → x.size < 256 → All Whole rs → follow k x i rs ≡ accepted → WClaim k x x.due rs
+w_main : (k : Meaning) (x : Context) (i : ℕ) (rs : List (List ℕ)) → Sound x → x.size < 256 → AllByRecursion Whole rs → follow k x i rs ≡ accepted → WClaim k x x.due rs
 w_main k x i [] s z w h = w_none k x x.due i h
 w_main k x i (r ∷ rs) s z w h =
     let p = onward_parts (ask k x r) i (follow k (past x r) (i + 1) rs) h in
@@ -185,7 +185,7 @@ low_code : (r : List ℕ) → Whole r → code r < 2 ^ 32
 low_code r w =
     omega (arith, get_or-drop 2 r 4 0, get_or-drop 2 r 5 0, get_or-drop 2 r 6 0, get_or-drop 2 r 7 0, w.small 6, w.small 7, w.small 8, w.small 9)
 
-well_rows : (k : Meaning) (r : List ℕ) (rs : List (List ℕ)) → All Whole (r ∷ rs) → follow k start 0 (r ∷ rs) ≡ accepted → WellFormed k (onto (bare (a (body r))) 0 (r ∷ rs))
+well_rows : (k : Meaning) (r : List ℕ) (rs : List (List ℕ)) → AllByRecursion Whole (r ∷ rs) → follow k start 0 (r ∷ rs) ≡ accepted → WellFormed k (onto (bare (a (body r))) 0 (r ∷ rs))
 well_rows k r rs w u =
     let v = onward_parts (ask k start r) 0 (follow k (past start r) (0 + 1) rs) u in
     let q = from_asked (pg r) no.Mark 0 (ask_header k (body r)) v.0 in
@@ -202,7 +202,7 @@ well_rows k r rs w u =
       mutexes_few = t.3;
       threads_some = omega (arith, m, t.4);
       threads_few = omega (arith, m, t.2);
-      lawful = subst (λ zs. All (λ v. k.lawful v ≡ true) (map code zs)) (sym k1) g.0;
+      lawful = subst (λ zs. AllByRecursion (λ v. k.lawful v ≡ true) (map code zs)) (sym k1) g.0;
       words = All-map (λ v. v < 2 ^ 32) code (filter sc (r ∷ rs)) (all_kept_by sc (λ z. code z < 2 ^ 32) (r ∷ rs) (All-weaker Whole (λ z. code z < 2 ^ 32) low_code (r ∷ rs) w));
       threads =
           subst (λ y. Threads k y (a (body r)) (length (texts 0 (filter th (r ∷ rs)))) 0 (texts 0 (filter th (r ∷ rs))) (map told (filter st (r ∷ rs)))) (sym n)
@@ -216,4 +216,4 @@ well k f h e =
     let p = parts k f e in
     let l = first_line k f e in
     subst (λ rs. WellFormed k (onto (bare (a (body (line f 0)))) 0 rs)) (sym l)
-    (well_rows k (line f 0) (drop 1 (lines f)) (subst (λ rs. All Whole rs) l (whole_lines f h)) (sym (ap (follow k start 0) l) ∙ p.run))
+    (well_rows k (line f 0) (drop 1 (lines f)) (subst (λ rs. AllByRecursion Whole rs) l (whole_lines f h)) (sym (ap (follow k start 0) l) ∙ p.run))

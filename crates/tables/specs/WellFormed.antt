@@ -1,7 +1,7 @@
 -- What the program of every accepted file keeps, and what is enough for its file to be accepted.
 use Rattle.std.specs.Prelude.{◌≡◌, ℕ, ◌+◌, ◌^◌, ◌<◌, ◌≤◌, true, cond, List, [], ◌∷◌, length, take, drop, ◌==◌}
 use Rattle.kinds.specs.Meaning.{Meaning}
-use Rattle.std.specs.List.{AllByRecursion as All}
+use Rattle.std.specs.List.{AllByRecursion}
 use Rattle.records.specs.declared.statement.Place.{Place}
 use Rattle.records.specs.declared.statement.Place.TheVariants.{Shared, Local}
 use Rattle.records.specs.declared.statement.Statement.{Statement}
@@ -84,7 +84,7 @@ pub record WellFormed (k : Meaning) (p : Program) : Type 0 where
   pub mutexes_few : p.mutexes ≤ 8
   pub threads_some : 1 ≤ length p.texts
   pub threads_few : length p.texts ≤ 8
-  pub lawful : All (λ v. k.lawful v ≡ true) p.cells
-  pub words : All (λ v. v < 2 ^ 32) p.cells
+  pub lawful : AllByRecursion (λ v. k.lawful v ≡ true) p.cells
+  pub words : AllByRecursion (λ v. v < 2 ^ 32) p.cells
   pub threads : Threads k (length p.cells) p.mutexes (length p.texts) 0 p.texts p.statements
   pub once : (j : ℕ) → creates j p.statements ≤ 1

@@ -1,6 +1,6 @@
 -- A run of a well-formed program holds lawful codes only.
 use Rattle.std.proofs.Common.{◌≡◌, ℕ, zero, suc, ◌+◌, ◌<◌, ◌≤◌, Bool, true, false, cond, eqb, ltb, List, [], ◌∷◌, ◌++◌, length, get_or, take, drop, set, replicate, Some, None, Option, sym, refl, ap, ◌∙◌, subst}
-use Rattle.std.specs.List.{AllByRecursion as All, slice_get}
+use Rattle.std.specs.List.{AllByRecursion, slice_get}
 use Rattle.std.proofs.ByRecursion.{All-append, All-set, All-take, All-drop}
 use Rattle.std.proofs.lemmas.List.{take-append-drop}
 use Rattle.kinds.specs.Meaning.{Meaning, Lawful}
@@ -68,21 +68,21 @@ fit_lawful k m n (op.Unlock m') f = tt
 fit_lawful k m n (op.Create j) f = tt
 fit_lawful k m n (op.Join j) f = tt
 
-numbered_lawful : (k : Meaning) (m : Counts) (n : ℕ) (ss : List Statement) → Numbered k m n ss → All (LawfulStatement k) ss
+numbered_lawful : (k : Meaning) (m : Counts) (n : ℕ) (ss : List Statement) → Numbered k m n ss → AllByRecursion (LawfulStatement k) ss
 numbered_lawful k m n [] f = tt
 numbered_lawful k m n (s ∷ ss) f = (fit_lawful k m n s f.0, numbered_lawful k m (n + 1) ss f.1)
 
-threads_lawful : (k : Meaning) (cs ms n at : ℕ) (ts : List ThreadText) (ss : List Statement) → Threads k cs ms n at ts ss → All (LawfulStatement k) ss
-threads_lawful k cs ms n at [] ss e = subst (All (LawfulStatement k)) (sym e) tt
+threads_lawful : (k : Meaning) (cs ms n at : ℕ) (ts : List ThreadText) (ss : List Statement) → Threads k cs ms n at ts ss → AllByRecursion (LawfulStatement k) ss
+threads_lawful k cs ms n at [] ss e = subst (AllByRecursion (LawfulStatement k)) (sym e) tt
 threads_lawful k cs ms n at (t ∷ ts) ss f =
-    subst (All (LawfulStatement k)) (take-append-drop t.size ss)
+    subst (AllByRecursion (LawfulStatement k)) (take-append-drop t.size ss)
     (All-append (LawfulStatement k) (take t.size ss) (drop t.size ss) (numbered_lawful k _ 0 (take t.size ss) f.5) (threads_lawful k cs ms n (at + t.size) ts (drop t.size ss) f.6))
 
 abbrev OfSome : {X : Type 0} → (X → Type 0) → Option X → Type 0
 OfSome P None = Unit {0}
 OfSome P (Some x) = P x
 
-all_nth : {X : Type 0} (P : X → Type 0) (xs : List X) (i : ℕ) → All P xs → OfSome P (slice_get xs i)
+all_nth : {X : Type 0} (P : X → Type 0) (xs : List X) (i : ℕ) → AllByRecursion P xs → OfSome P (slice_get xs i)
 all_nth P [] i all = tt
 all_nth P (x ∷ xs) zero all = all.0
 all_nth P (x ∷ xs) (suc i) all = all_nth P xs i all.1
@@ -164,7 +164,7 @@ module _ (k : Meaning) (laws : Lawful k) where
   lawful_effect_of p i s None h g = tt
   lawful_effect_of p i s (Some x) h g = lawful_effect p i s h x g
 
-  module _ (p : Program) (texts : All (LawfulStatement k) p.statements) where
+  module _ (p : Program) (texts : AllByRecursion (LawfulStatement k) p.statements) where
     lawful_next : (i : Thread) (s : State) → LawfulState k s → LawfulState k (after i (next k p i s) s)
     lawful_next i s h =
         lawful_after i (next k p i s) s

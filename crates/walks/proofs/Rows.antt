@@ -1,6 +1,6 @@
 -- `leaves` are the leaves, all of them, in dictionary order.
 use Rattle.std.proofs.Common.{◌≡◌, ℕ, zero, suc, ◌+◌, ◌-◌, ◌<◌, ◌≤◌, ◌⊎◌, List, [], ◌∷◌, ◌++◌, length, sym, refl, ap, ◌∙◌, subst, inl, inr, ⊎_elim, append_assoc, arith}
-use Rattle.std.specs.List.{ContainsAt as Has, AllByRecursion as All}
+use Rattle.std.specs.List.{ContainsAt as Has, AllByRecursion}
 use Rattle.std.proofs.lemmas.List.{length-append, append-nil}
 use Rattle.std.proofs.ByRecursion.{All-append, All-weaker, has_append_left, has_append_right}
 use Rattle.std.proofs.lemmas.Bool.{cases_eq, cases_lt}
@@ -26,11 +26,11 @@ under_deeper l n s u = (n, u.0 ∷ u.1, u.2 ∙ append_assoc l (n ∷ []) (u.0 �
 before_later : (l : List ℕ) (n : ℕ) (s t : List ℕ) → (x : List ℕ) → s ≡ l ++ n ∷ x → Under l (suc n) t → Before s t
 before_later l n s t x e u = (l, n, u.0, x, u.1, e, u.2, omega (arith, u.3))
 
-ascending_append : (xs ys : List (List ℕ)) → Ascending xs → Ascending ys → All (λ s. All (Before s) ys) xs → Ascending (xs ++ ys)
+ascending_append : (xs ys : List (List ℕ)) → Ascending xs → Ascending ys → AllByRecursion (λ s. AllByRecursion (Before s) ys) xs → Ascending (xs ++ ys)
 ascending_append [] ys a b c = b
 ascending_append (x ∷ xs) ys a b c = (All-append (Before x) xs ys a.0 c.0, ascending_append xs ys a.1 b c.1)
 
-past_all : {X : Type 0} (P : X → Type 0) (e : Ending) (more : List X) → All P more → All P (past e more)
+past_all : {X : Type 0} (P : X → Type 0) (e : Ending) (more : List X) → AllByRecursion P more → AllByRecursion P (past e more)
 past_all P Failed more h = tt
 past_all P Cut more h = h
 past_all P Full more h = h
@@ -40,7 +40,7 @@ past_ascending Failed more h = tt
 past_ascending Cut more h = h
 past_ascending Full more h = h
 
-past_leaf : {X : Type 0} (P : X → Type 0) (e : Ending) (more : List X) → ((e ≡ Failed → ⊥) → All P more) → All P (past e more)
+past_leaf : {X : Type 0} (P : X → Type 0) (e : Ending) (more : List X) → ((e ≡ Failed → ⊥) → AllByRecursion P more) → AllByRecursion P (past e more)
 past_leaf P Failed more h = tt
 past_leaf P Cut more h = h (λ x. let w : ◌≡◌ {A = ℕ} 0 1 = cc in omega arith)
 past_leaf P Full more h = h (λ x. let w : ◌≡◌ {A = ℕ} 0 1 = cc in omega arith)
@@ -52,27 +52,27 @@ past_has Full more s x h = h
 
 module _ (out : List ℕ → Outcome) where
   here_under : (below : List ℕ → ℕ → List (List ℕ)) (l : List ℕ) (n : ℕ) (more : List (List ℕ)) (o : Outcome)
-      → ((s : List ℕ) (b : ℕ) → All (Under s 0) (below s b)) → All (Under l (suc n)) more
-      → All (Under l n) (here below (l ++ n ∷ []) more o)
+      → ((s : List ℕ) (b : ℕ) → AllByRecursion (Under s 0) (below s b)) → AllByRecursion (Under l (suc n)) more
+      → AllByRecursion (Under l n) (here below (l ++ n ∷ []) more o)
   here_under below l n more (Open b) deep later = All-append (Under l n) (below (l ++ n ∷ []) b) more (All-weaker (Under (l ++ n ∷ []) 0) (Under l n) (under_deeper l n) (below (l ++ n ∷ []) b) (deep (l ++ n ∷ []) b)) (All-weaker (Under l (suc n)) (Under l n) (under_later l n) more later)
   here_under below l n more (Ended e) deep later = ((n, [], refl, omega arith), past_all (Under l n) e more (All-weaker (Under l (suc n)) (Under l n) (under_later l n) more later))
 
-  scan_under : (below : List ℕ → ℕ → List (List ℕ)) (l : List ℕ) (k n : ℕ) → ((s : List ℕ) (b : ℕ) → All (Under s 0) (below s b)) → All (Under l n) (scan out below l k n)
+  scan_under : (below : List ℕ → ℕ → List (List ℕ)) (l : List ℕ) (k n : ℕ) → ((s : List ℕ) (b : ℕ) → AllByRecursion (Under s 0) (below s b)) → AllByRecursion (Under l n) (scan out below l k n)
   unfolding scan
   scan_under below l zero n deep = tt
   scan_under below l (suc k) n deep = here_under below l n (scan out below l k (suc n)) (out (l ++ n ∷ [])) deep (scan_under below l k (suc n) deep)
 
-  level_under : (f : ℕ) (l : List ℕ) (b : ℕ) → All (Under l 0) (level out f l b)
+  level_under : (f : ℕ) (l : List ℕ) (b : ℕ) → AllByRecursion (Under l 0) (level out f l b)
   unfolding level
   level_under zero l b = tt
   level_under (suc f) l b = scan_under (level out f) l (suc b) 0 (level_under f)
 
   here_ascending : (below : List ℕ → ℕ → List (List ℕ)) (l : List ℕ) (n : ℕ) (more : List (List ℕ)) (o : Outcome)
-      → ((s : List ℕ) (b : ℕ) → All (Under s 0) (below s b)) → ((s : List ℕ) (b : ℕ) → Ascending (below s b)) → All (Under l (suc n)) more → Ascending more
+      → ((s : List ℕ) (b : ℕ) → AllByRecursion (Under s 0) (below s b)) → ((s : List ℕ) (b : ℕ) → Ascending (below s b)) → AllByRecursion (Under l (suc n)) more → Ascending more
       → Ascending (here below (l ++ n ∷ []) more o)
   here_ascending below l n more (Open b) deep order later rest =
       ascending_append (below (l ++ n ∷ []) b) more (order (l ++ n ∷ []) b) rest
-      (All-weaker (Under (l ++ n ∷ []) 0) (λ s. All (Before s) more)
+      (All-weaker (Under (l ++ n ∷ []) 0) (λ s. AllByRecursion (Before s) more)
       (λ s u. All-weaker (Under l (suc n)) (Before s) (λ t v. before_later l n s t (u.0 ∷ u.1) (u.2 ∙ append_assoc l (n ∷ []) (u.0 ∷ u.1)) v) more later)
       (below (l ++ n ∷ []) b) (deep (l ++ n ∷ []) b))
   here_ascending below l n more (Ended e) deep order later rest = (
@@ -80,7 +80,7 @@ module _ (out : List ℕ → Outcome) where
     past_ascending e more rest,
   )
 
-  scan_ascending : (below : List ℕ → ℕ → List (List ℕ)) (l : List ℕ) (k n : ℕ) → ((s : List ℕ) (b : ℕ) → All (Under s 0) (below s b)) → ((s : List ℕ) (b : ℕ) → Ascending (below s b)) → Ascending (scan out below l k n)
+  scan_ascending : (below : List ℕ → ℕ → List (List ℕ)) (l : List ℕ) (k n : ℕ) → ((s : List ℕ) (b : ℕ) → AllByRecursion (Under s 0) (below s b)) → ((s : List ℕ) (b : ℕ) → Ascending (below s b)) → Ascending (scan out below l k n)
   unfolding scan
   scan_ascending below l zero n deep order = tt
   scan_ascending below l (suc k) n deep order = here_ascending below l n (scan out below l k (suc n)) (out (l ++ n ∷ [])) deep order (scan_under below l k (suc n) deep) (scan_ascending below l k (suc n) deep order)
@@ -107,8 +107,8 @@ module _ (out : List ℕ → Outcome) where
   leaf_at l n b e le none o x ends = (l, n, refl, record { bound = b; opened = e; within = le; ends = λ y. ends (subst IsOpen x y); least = λ m lt f. none m lt })
 
   here_leaf : (below : List ℕ → ℕ → List (List ℕ)) (l : List ℕ) (n b : ℕ) (more : List (List ℕ)) (o : Outcome) → out (l ++ n ∷ []) ≡ o → out l ≡ Open b → n ≤ b → NoneFail l n
-      → ((s : List ℕ) (c : ℕ) → out s ≡ Open c → All (Leaf out) (below s c)) → (NoneFail l (suc n) → All (Leaf out) more)
-      → All (Leaf out) (here below (l ++ n ∷ []) more o)
+      → ((s : List ℕ) (c : ℕ) → out s ≡ Open c → AllByRecursion (Leaf out) (below s c)) → (NoneFail l (suc n) → AllByRecursion (Leaf out) more)
+      → AllByRecursion (Leaf out) (here below (l ++ n ∷ []) more o)
   here_leaf below l n b more (Open c) x e le none deep later = All-append (Leaf out) (below (l ++ n ∷ []) c) more (deep (l ++ n ∷ []) c x) (later (none_more l n none (λ y. let z : Open c ≡ Ended Failed = sym x ∙ y in (let w : ◌≡◌ {A = ℕ} 0 1 = cc in omega arith))))
   here_leaf below l n b more (Ended d) x e le none deep later = (
     leaf_at l n b e le none (Ended d) x (λ y. y),
@@ -116,12 +116,12 @@ module _ (out : List ℕ → Outcome) where
   )
 
   scan_leaf : (below : List ℕ → ℕ → List (List ℕ)) (l : List ℕ) (k n b : ℕ) → out l ≡ Open b → n + k ≡ suc b → NoneFail l n
-      → ((s : List ℕ) (c : ℕ) → out s ≡ Open c → All (Leaf out) (below s c)) → All (Leaf out) (scan out below l k n)
+      → ((s : List ℕ) (c : ℕ) → out s ≡ Open c → AllByRecursion (Leaf out) (below s c)) → AllByRecursion (Leaf out) (scan out below l k n)
   unfolding scan
   scan_leaf below l zero n b e le none deep = tt
   scan_leaf below l (suc k) n b e le none deep = here_leaf below l n b (scan out below l k (suc n)) (out (l ++ n ∷ [])) refl e (omega arith) none deep (λ h. scan_leaf below l k (suc n) b e (omega arith) h deep)
 
-  level_leaf : (f : ℕ) (l : List ℕ) (b : ℕ) → out l ≡ Open b → All (Leaf out) (level out f l b)
+  level_leaf : (f : ℕ) (l : List ℕ) (b : ℕ) → out l ≡ Open b → AllByRecursion (Leaf out) (level out f l b)
   unfolding level NoneFail
   level_leaf zero l b e = tt
   level_leaf (suc f) l b e = scan_leaf (level out f) l (suc b) 0 b e (omega arith) (λ m lt x. omega arith) (level_leaf f)

@@ -1,6 +1,6 @@
 -- The leaves of a runner's meaning: which lists they are, and all of them in dictionary order.
 use Rattle.std.specs.Prelude.{◌≡◌, ℕ, zero, suc, ◌<◌, ◌≤◌, List, [], ◌∷◌, ◌++◌, ◌≢◌}
-use Rattle.std.specs.List.{ContainsAt as Has, AllByRecursion as All}
+use Rattle.std.specs.List.{ContainsAt as Has, AllByRecursion}
 use Rattle.walks.specs.declared.outcome.Outcome.{Outcome}
 use Rattle.walks.specs.declared.outcome.Outcome.TheVariants.{Open, Ended}
 use Rattle.walks.specs.declared.outcome.Ending.{Ending}
@@ -43,7 +43,7 @@ abbrev pub from_start : (out : List ℕ → Outcome) → Outcome → List (List 
 from_start out (Open b) = level out 64 [] b
 from_start out (Ended e) = []
 
--- All leaves.
+-- AllByRecursion leaves.
 unfoldable pub leaves : (List ℕ → Outcome) → List (List ℕ)
 leaves out = from_start out (out [])
 
@@ -54,10 +54,10 @@ Before s t = (p : List ℕ) × (a : ℕ) × (b : ℕ) × (x : List ℕ) × (y : 
 -- each list is before all that follow it
 abbrev pub Ascending : List (List ℕ) → Type 0
 Ascending [] = Unit {0}
-Ascending (s ∷ rows) = All (Before s) rows × Ascending rows
+Ascending (s ∷ rows) = AllByRecursion (Before s) rows × Ascending rows
 
 -- The rows are the leaves, all of them and each once, in dictionary order.
 pub record Complete (out : List ℕ → Outcome) (rows : List (List ℕ)) : Type 0 where
-  pub only : All (Leaf out) rows
+  pub only : AllByRecursion (Leaf out) rows
   pub every : (s : List ℕ) → Leaf out s → Has rows s
   pub order : Ascending rows

@@ -1,5 +1,5 @@
 use Rattle.std.proofs.Common.{◌≡◌, ℕ, ◌*◌, ◌≤◌, length}
-use Rattle.std.specs.List.{AllByRecursion as All}
+use Rattle.std.specs.List.{AllByRecursion}
 use Rattle.tables.specs.Program.{Program}
 use Rattle.sequences.proofs.Ways.{Found}
 use Rattle.sequences.proofs.labels.find_labels.Given as goal
@@ -9,4 +9,4 @@ invariant-loop-l l =
     ((p : Program) (i : ℕ) → Found p i l.text l.l l.behind l.at)
     × (l.behind ≤ 5 * l.l)
     × (length l.at ≡ 256)
-    × All (λ a. a ≤ 1275) l.at
+    × AllByRecursion (λ a. a ≤ 1275) l.at

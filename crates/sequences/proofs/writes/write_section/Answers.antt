@@ -1,5 +1,5 @@
 use Rattle.std.proofs.Common.{◌≡◌, List, ◌++◌, take, vec_items, sym, ap, ◌∙◌, subst}
-use Rattle.std.specs.List.{AllByRecursion as All}
+use Rattle.std.specs.List.{AllByRecursion}
 use Rattle.std.proofs.ByRecursion.{All-get_or}
 use Rattle.records.specs.declared.statement.Statement.{Statement}
 use Rattle.tables.specs.Tables.{view}
@@ -34,7 +34,7 @@ returns c =
       items =
           λ low.
           section_ends p i text A 1936 c.loop-l.l (vec_items c.loop-l.code) (vec_items c.emit.new.code) c.loop-l-test.false c.emit.ensures.items
-          ∙ c.loop-l.invariant.0 (subst (All Low) (sym own) low)
+          ∙ c.loop-l.invariant.0 (subst (AllByRecursion Low) (sym own) low)
           ∙ ap (λ xs. take 1936 (old ++ xs)) (behind_same p i (guarded text) A (address_of p i text) (c.find_labels-labels.ensures.value p i) text 0)
           ∙ ap (λ (xs : List Statement). take 1936 (old ++ behind p i (guarded xs) (address_of p i xs) xs 0)) own;
       room = c.emit.ensures.room;
