@@ -6,10 +6,9 @@ use Rattle.tables.specs.Program.{Program}
 use Rattle.walks.specs.declared.outcome.Ending.TheVariants.{Failed, Cut, Full}
 use Rattle.walks.specs.declared.outcome.Outcome.{Outcome}
 use Rattle.walks.specs.declared.outcome.Outcome.TheVariants.{Open, Ended}
-use Rattle.sequences.specs.declared.instruction.Instruction.{Instruction}
 use Rattle.sequences.specs.declared.instruction.Instruction.TheVariants as op
 use Rattle.sequences.specs.Code.{section, driver, at, label, thread}
-use Rattle.sequences.specs.Drives.{drive, cells_of}
+use Rattle.sequences.specs.Drives.{drive}
 use Rattle.cases.specs.Tables.{p, q}
 
 -- the section and the driver of Q, with one round

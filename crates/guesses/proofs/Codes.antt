@@ -1,6 +1,5 @@
 -- The instructions of a program that exists hold only lawful codes, and so do its runs.
-use Rattle.std.proofs.Common.{◌≡◌, ℕ, suc, Bool, true, false, List, [], ◌∷◌, ◌++◌, drop, refl}
-use Rattle.std.specs.List.{AllByRecursion}
+use Rattle.std.proofs.Common.{◌≡◌, ℕ, suc, Bool, true, false, List, [], ◌∷◌, drop, refl}
 use Rattle.std.proofs.ByRecursion.{All-append}
 use Rattle.kinds.specs.Meaning.{Meaning, Lawful}
 use Rattle.records.specs.declared.statement.Statement.{Statement}

@@ -1,6 +1,6 @@
 -- The instructions of one statement do what the statement does.
-use Rattle.std.specs.Prelude.{◌≡◌, ℕ, zero, suc, ◌+◌, ◌-◌, ◌<◌, ◌≤◌, Bool, true, false, cond, ◌&&◌, ◌⊎◌, List, [], ◌∷◌, ◌++◌, length, ◌==◌, nat_eq, nat_le, nat_lt, refl}
-use Rattle.std.proofs.Common.{sym, ap, ap₂, subst, ◌∙◌, inl, inr, ⊎_elim, arith}
+use Rattle.std.specs.Prelude.{◌≡◌, ℕ, suc, ◌+◌, ◌-◌, ◌<◌, ◌≤◌, Bool, true, false, cond, ◌&&◌, List, ◌∷◌, ◌++◌, ◌==◌, nat_eq, nat_le, nat_lt, refl}
+use Rattle.std.proofs.Common.{sym, ap, ap₂, subst, ◌∙◌, ⊎_elim, arith}
 use Rattle.std.proofs.lemmas.Bool.{eq-eqb, ne_eqb, cases_eq, lt-ltb, le-ltb, le-leb, and_from, and_right}
 use Rattle.kinds.specs.Meaning.{Meaning}
 use Rattle.records.specs.declared.statement.Mutex.{Mutex}
@@ -19,7 +19,7 @@ use Rattle.threads.specs.declared.effect.Effect.TheVariants as effects
 use Rattle.threads.specs.Effects.{effect, taken, freed, ended}
 use Rattle.threads.specs.Plays.{thread}
 use Rattle.sequences.specs.declared.act.Act.{Act}
-use Rattle.sequences.specs.declared.act.Act.TheVariants.{On, Write, Mark, To, Back, Fail, Stop}
+use Rattle.sequences.specs.declared.act.Act.TheVariants.{On, Write, Mark, To, Fail, Stop}
 use Rattle.sequences.specs.declared.instruction.Instruction.{Instruction}
 use Rattle.sequences.specs.declared.instruction.Instruction.TheVariants as op
 use Rattle.sequences.specs.declared.section.SectionEnd.TheVariants as end

@@ -1,7 +1,7 @@
 -- The driver runs as the slots bounded by labels do.
-use Rattle.std.specs.Prelude.{◌≡◌, ℕ, zero, suc, ◌+◌, ◌-◌, ◌<◌, ◌≤◌, Bool, true, false, cond, ◌⊎◌, List, [], ◌∷◌, ◌++◌, length, drop, Some, None, Option, ◌==◌, ◌≢◌, nat_lt}
+use Rattle.std.specs.Prelude.{◌≡◌, ℕ, zero, suc, ◌+◌, ◌-◌, ◌<◌, ◌≤◌, Bool, true, false, cond, List, [], ◌∷◌, length, drop, Some, None, Option, ◌==◌, ◌≢◌, nat_lt}
 use Rattle.std.proofs.Math.Path.{refl, ap}
-use Rattle.std.proofs.Common.{sym, ap₂, subst, ◌∙◌, inl, inr, ⊎_elim, arith, length-drop}
+use Rattle.std.proofs.Common.{sym, ap₂, subst, ◌∙◌, ⊎_elim, arith, length-drop}
 use Rattle.std.specs.List.{AllByRecursion}
 use Rattle.std.proofs.lemmas.Bool.{cases_lt, cases_eq, cases_Bool, lt-ltb, le-ltb}
 use Rattle.kinds.specs.Meaning.{Meaning}
@@ -13,8 +13,8 @@ use Rattle.tables.specs.Slots.{program_slots, slot_total}
 use Rattle.tables.specs.WellFormed.{WellFormed}
 use Rattle.threads.specs.declared.slot.SlotEnd.{SlotEnd}
 use Rattle.threads.specs.declared.slot.SlotEnd.TheVariants as slot_end
-use Rattle.threads.specs.Effects.{effect_of, next}
-use Rattle.threads.specs.Plays.{Played, bound, closed, served_by, rounds_by, thread}
+use Rattle.threads.specs.Effects.{effect_of}
+use Rattle.threads.specs.Plays.{bound, closed, served_by, thread}
 use Rattle.threads.specs.Slots.{Ran, ran, slot_of}
 use Rattle.walks.specs.declared.outcome.Ending.{Ending}
 use Rattle.walks.specs.declared.outcome.Ending.TheVariants as ending
@@ -25,12 +25,12 @@ use Rattle.sequences.specs.declared.state.SeqState.{SeqState}
 use Rattle.sequences.specs.Acts.{Called, call}
 use Rattle.sequences.specs.Code as code
 use Rattle.sequences.specs.Code.{section, driver, driver_from}
-use Rattle.sequences.specs.Drives.{Sequence, Moved, moved, Driven, Move, slot, guess, enter, save, finish, first_move, driven, asked, returned, proceed, proceeds, turn, drive_from, drive, sequence, point}
+use Rattle.sequences.specs.Drives.{Sequence, Moved, moved, Driven, first_move, driven, asked, returned, proceed, proceeds, turn, drive_from, sequence, point}
 use Rattle.sequences.specs.States.{word, with_word}
 use Rattle.sequences.specs.Words.{active, saved, stop_at}
 use Rattle.sequences.proofs.Translated.{program_within}
 use Rattle.guesses.specs.Answers.{Answer, played_so, driven_so, drive_answer, pace_answer}
-use Rattle.guesses.specs.Paces.{until, pace, paces, paced}
+use Rattle.guesses.specs.Paces.{until, pace, paces}
 use Rattle.guesses.specs.Entries.{Sized, sized_go, lab, go_go, go_stay}
 use Rattle.guesses.specs.Layouts.{ahead_section}
 use Rattle.guesses.specs.Onwards.{Onto, onto}

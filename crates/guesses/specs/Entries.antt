@@ -1,6 +1,6 @@
 -- A thread's label changed, beside the other changes of a state.
 use Rattle.std.specs.Prelude.{◌≡◌, ℕ, zero, suc, ◌<◌, List, [], ◌∷◌, length, get_or, ◌≢◌, slice_index_or, slice_set, refl}
-use Rattle.std.proofs.Common.{sym, ap, ◌∙◌, arith, length-set}
+use Rattle.std.proofs.Common.{ap, ◌∙◌, arith, length-set}
 use Rattle.kinds.specs.Meaning.{Meaning}
 use Rattle.records.specs.declared.statement.Label.{Label}
 use Rattle.records.specs.declared.statement.Place.{Place}
@@ -9,7 +9,7 @@ use Rattle.states.specs.declared.entries.ThreadEntry.{ThreadEntry}
 use Rattle.states.specs.declared.state.MutexState.{MutexState}
 use Rattle.states.specs.declared.state.State.{State}
 use Rattle.states.specs.Entries.{no_entry, labelled, with_local, awake}
-use Rattle.states.specs.States.{label, created, entry, go, value, put, mark, create}
+use Rattle.states.specs.States.{label, go, value, put, mark, create}
 
 abbrev pub lab : ℕ → Label
 lab t = record { 0 = t }

@@ -5,7 +5,7 @@ use Rattle.std.proofs.lemmas.Bool.{eq-eqb}
 use Rattle.kinds.specs.Meaning.{Meaning}
 use Rattle.records.specs.declared.statement.Statement.{Statement}
 use Rattle.records.specs.declared.statement.Statement.TheVariants.{Set, Copy, Sum, Difference, Less, Same, Jump, Branch, Assume, Assert, Init, Destroy, Lock, Unlock, Create, Join}
-use Rattle.tables.specs.Program.{Program, size, own}
+use Rattle.tables.specs.Program.{Program, own}
 use Rattle.tables.specs.WellFormed.{WellFormed}
 use Rattle.sequences.specs.declared.instruction.Instruction.{Instruction}
 use Rattle.sequences.specs.Code.{inner, past, guards, guarded, names, address, address_in, behind, section}

@@ -1,6 +1,6 @@
 -- Where a statement leads: to the next label, or to one that it names.
-use Rattle.std.specs.Prelude.{◌≡◌, ℕ, zero, suc, ◌+◌, ◌<◌, ◌≤◌, Bool, true, false, cond, ◌⊎◌, List, [], ◌∷◌, length, drop, ◌==◌, refl}
-use Rattle.std.proofs.Common.{sym, ap, ◌∙◌, inl, inr, ⊎_elim, arith}
+use Rattle.std.specs.Prelude.{◌≡◌, ℕ, zero, suc, ◌<◌, ◌≤◌, Bool, true, false, cond, ◌⊎◌, List, [], ◌∷◌, drop, ◌==◌, refl}
+use Rattle.std.proofs.Common.{ap, ◌∙◌, inl, inr, arith}
 use Rattle.std.proofs.lemmas.Bool.{eq-eqb, eqb-true, or_left, or_right}
 use Rattle.kinds.specs.Meaning.{Meaning}
 use Rattle.records.specs.declared.statement.Mutex.{Mutex}
@@ -9,8 +9,8 @@ use Rattle.records.specs.declared.statement.Statement.TheVariants.{Set, Copy, Su
 use Rattle.states.specs.declared.state.MutexState.{MutexState}
 use Rattle.states.specs.declared.state.MutexState.TheVariants.{Free, Destroyed, Held}
 use Rattle.states.specs.declared.state.State.{State}
-use Rattle.states.specs.States.{label, value, mutex, put, mark, create}
-use Rattle.tables.specs.Program.{Program, size}
+use Rattle.states.specs.States.{label, value, mutex}
+use Rattle.tables.specs.Program.{Program}
 use Rattle.tables.specs.WellFormed.{Counts, Fit}
 use Rattle.threads.specs.declared.effect.Effect.{Effect}
 use Rattle.threads.specs.declared.effect.Effect.TheVariants as effects

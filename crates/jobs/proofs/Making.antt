@@ -1,10 +1,9 @@
 -- What Load and Translate make of a job.
-use Rattle.std.proofs.Common.{◌≡◌, ℕ, ◌≤◌, Bool, true, false, cond, ◌&&◌, leb, ◌⊎◌, List, Some, None, Ok, Err, Result, sym, refl, ap, ◌∙◌, subst, inl, inr, ⊎_elim, arith}
+use Rattle.std.proofs.Common.{◌≡◌, ℕ, ◌≤◌, Bool, true, false, cond, leb, List, Some, None, Ok, Err, Result, sym, refl, ap, ◌∙◌, subst, arith}
 use Rattle.kinds.specs.declared.kind.Kind.{Ghosts}
 use native.Mathlib.Bridge.{le_prop}
-use Rattle.std.proofs.lemmas.Bool.{cases_Bool, leb-true, and_parts}
+use Rattle.std.proofs.lemmas.Bool.{leb-true, and_parts}
 use Rattle.kinds.specs.Meaning.{Meaning}
-use Rattle.questions.specs.Answer as questions
 use Rattle.questions.specs.Question.{question}
 use Rattle.records.specs.declared.refusal.LoadError.{LoadError}
 use Rattle.records.specs.declared.refusal.Refusal.{Refusal}
@@ -16,11 +15,10 @@ use Rattle.tables.specs.WellFormed.{WellFormed}
 use Rattle.threads.specs.declared.machine.Machine.{Machine}
 use Rattle.threads.specs.Machines.{program, rounds_asked, rounds_after}
 use Rattle.jobs.specs.declared.job.Job.{Job}
-use Rattle.jobs.specs.declared.job.Stage.{Stage}
-use Rattle.jobs.specs.declared.job.Stage.TheVariants.{Empty, Loaded, Translated}
+use Rattle.jobs.specs.declared.job.Stage.TheVariants.{Empty}
 use Rattle.jobs.specs.Counts.{yes_or}
-use Rattle.jobs.specs.Keeps.{Keeps, HasProgram, HasTranslation}
-use Rattle.jobs.specs.Models.{Model, empty, loaded, translated, few, load_next, rounds_no, translate_answer, translate_next}
+use Rattle.jobs.specs.Keeps.{Keeps, HasTranslation}
+use Rattle.jobs.specs.Models.{Model, empty, loaded, translated, few, load_next, translate_answer, translate_next}
 
 module _ {V : Type 0} {G : Ghosts V} (k : Meaning) (j : Job V G) where
   abbrev with_threads : Machine V G → Job V G

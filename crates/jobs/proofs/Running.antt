@@ -1,7 +1,7 @@
 -- What Play, Drive and Found tell of a translated job.
-use Rattle.std.proofs.Common.{◌≡◌, ℕ, List, length, Some, None, Ok, Err, Option, Result, sym, refl, ap, ◌∙◌, subst, ap₂}
+use Rattle.std.proofs.Common.{◌≡◌, ℕ, List, length, Some, None, Option, Result, sym, ap, ◌∙◌, subst, ap₂}
 use Rattle.kinds.specs.declared.kind.Kind.{Ghosts}
-use Rattle.agreement.specs.Agreement.{Told, play_told}
+use Rattle.agreement.specs.Agreement.{play_told}
 use Rattle.kinds.specs.Meaning.{Meaning, Lawful}
 use Rattle.records.specs.declared.refusal.Refusal.{Refusal}
 use Rattle.records.specs.declared.refusal.Refusal.TheVariants.{NothingFound}
@@ -24,7 +24,7 @@ use Rattle.threads.specs.Reports as threads
 use Rattle.walks.specs.declared.found.Found.{Found}
 use Rattle.walks.specs.declared.tally.Tally.{Tally}
 use Rattle.walks.specs.Leaves.{leaves}
-use Rattle.walks.specs.Tallies.{Failing, latest, visited, latest_list, list_found, as_failing}
+use Rattle.walks.specs.Tallies.{latest, latest_list, list_found, as_failing}
 use Rattle.jobs.specs.declared.job.Job.{Job}
 use Rattle.jobs.specs.Keeps.{HasTranslation}
 use Rattle.jobs.specs.Models.{Lent, lent_as, lent, latest_found, Shown, shown, unshown, found_so}

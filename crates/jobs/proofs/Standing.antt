@@ -1,5 +1,5 @@
 -- What a translated job's machines come to, and how Walk and Survey go on.
-use Rattle.std.proofs.Common.{◌≡◌, ℕ, ◌≤◌, ◌⊎◌, List, Ok, Err, Result, sym, refl, ap, ◌∙◌, subst, ap₂, inl, inr, ⊎_elim, arith}
+use Rattle.std.proofs.Common.{◌≡◌, ℕ, ◌⊎◌, Err, Result, sym, refl, ap, ◌∙◌, subst, ap₂, inl, inr, arith}
 use Rattle.kinds.specs.declared.kind.Kind.{Ghosts}
 use mathlib.Core.Path.{fun_ext}
 use Rattle.agreement.specs.Agreement.{scheduled, guessed}
@@ -13,18 +13,15 @@ use Rattle.sequences.proofs.Translated.{drives_translated}
 use Rattle.tables.specs.Program.{Program}
 use Rattle.tables.specs.WellFormed.{WellFormed}
 use Rattle.threads.specs.declared.point.Point.{Point}
-use Rattle.threads.specs.Plays.{play}
 use Rattle.threads.specs.Points as threads
-use Rattle.walks.specs.declared.outcome.Outcome.{Outcome}
 use Rattle.walks.specs.declared.walk.Walk.{Walk}
-use Rattle.walks.specs.Tallies.{visited}
 use Rattle.walks.specs.Walks.{Tied}
 use Rattle.jobs.specs.declared.counts.Counts.{Counts}
 use Rattle.jobs.specs.declared.job.Job.{Job}
 use Rattle.jobs.specs.declared.job.Stage.{Stage}
 use Rattle.jobs.specs.declared.job.Stage.TheVariants.{Empty, Loaded, Translated}
 use Rattle.jobs.specs.Counts.{walk_answer, walk_next, Walked}
-use Rattle.jobs.specs.Keeps.{Keeps, HasProgram, HasTranslation, threads_outcome, sequential_outcome}
+use Rattle.jobs.specs.Keeps.{Keeps, HasTranslation, threads_outcome, sequential_outcome}
 use Rattle.jobs.specs.Models.{Model, empty, loaded, translated, walk_reply, survey_reply, walked, surveyed}
 
 -- two stages are never the same

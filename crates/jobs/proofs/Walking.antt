@@ -1,5 +1,5 @@
 -- A call that walks on: refused, or by so many leaves.
-use Rattle.std.proofs.Common.{◌≡◌, ℕ, ◌+◌, ◌<◌, ◌≤◌, min, Bool, true, false, cond, ltb, leb, ◌⊎◌, List, length, Some, None, Ok, Err, Option, Result, sym, refl, ap, ◌∙◌, subst, ap₂, inl, inr, ⊎_elim, arith}
+use Rattle.std.proofs.Common.{◌≡◌, ℕ, ◌+◌, ◌<◌, ◌≤◌, min, Bool, true, false, cond, leb, List, Some, None, Ok, Err, Option, sym, refl, ap, ◌∙◌, ap₂, ⊎_elim, arith}
 use Rattle.std.proofs.lemmas.Bool.{cases_lt, lt-leb, le-leb, lt-ltb, le-ltb}
 use Rattle.records.specs.declared.refusal.Refusal.{Refusal}
 use Rattle.reports.specs.Reports.{answered, unless}
@@ -7,13 +7,12 @@ use Rattle.walks.specs.declared.outcome.Outcome.{Outcome}
 use Rattle.walks.specs.declared.walk.Answer.{Answer}
 use Rattle.walks.specs.declared.walk.Answer.TheVariants.{Done, Spent}
 use Rattle.walks.specs.declared.walk.Walk.{Walk}
-use Rattle.walks.specs.Leaves.{leaves}
 use Rattle.walks.specs.Runs.{Lawful}
 use Rattle.walks.specs.Tallies.{visited}
 use Rattle.walks.specs.Walks.{Tied, Advanced, answer_at}
 use Rattle.walks.proofs.Advances.{answers}
 use Rattle.jobs.specs.declared.counts.Counts.{Counts}
-use Rattle.jobs.specs.Counts.{yes_or, over, limit_no, visits, tally_counts, total, counts_at, onward, walk_no, walk_answer, walk_next, Walked}
+use Rattle.jobs.specs.Counts.{yes_or, over, limit_no, visits, tally_counts, total, counts_at, onward, walk_no, Walked}
 
 -- a refusal, or none, from an answer to the questions
 pub no_is : (o : Option Refusal) (e : Refusal) → Err e ≡ yes_or o → o ≡ Some e

@@ -12,7 +12,6 @@ use Rattle.walks.specs.declared.outcome.Outcome.{Outcome}
 use Rattle.walks.specs.Tallies.{visited}
 use Rattle.walks.specs.Walks.{Tied}
 use Rattle.jobs.specs.declared.job.Job.{Job}
-use Rattle.jobs.specs.declared.job.Stage.{Stage}
 use Rattle.jobs.specs.declared.job.Stage.TheVariants.{Empty, Loaded, Translated}
 use Rattle.jobs.specs.Models.{Model, empty, loaded, translated}
 

@@ -1,5 +1,5 @@
 -- A job as its calls see it, and what each call makes of it.
-use Rattle.std.specs.Prelude.{◌≡◌, ℕ, Bool, cond, ◌&&◌, List, [], ◌∷◌, length, Some, None, Ok, Err, Option, Result, nat_le}
+use Rattle.std.specs.Prelude.{ℕ, Bool, cond, ◌&&◌, List, [], ◌∷◌, length, Some, None, Ok, Err, Option, Result, nat_le}
 use Rattle.agreement.specs.Agreement.{Told, play_told, drive_told, scheduled, guessed, schedule as schedule_of}
 use Rattle.kinds.specs.Meaning.{Meaning}
 use Rattle.questions.specs.Answer as questions

@@ -1,5 +1,5 @@
 -- What look finds out before it prints anything.
-use Rattle.std.specs.Prelude.{◌≡◌, ℕ, ◌≤◌, List, length, replicate, Ok, Err, vec_len, Result}
+use Rattle.std.specs.Prelude.{◌≡◌, ℕ, ◌≤◌, List, length, replicate, Ok, vec_len, Result}
 use Rattle.kinds.specs.Meaning.{Meaning}
 use Rattle.questions.specs.Answer.{accepted}
 use Rattle.questions.specs.Question.{question}

@@ -1,12 +1,11 @@
 -- What is due stays within the counts, and a record whose mark none has.
-use Rattle.std.proofs.Common.{◌≡◌, ℕ, ◌+◌, ◌<◌, Bool, true, false, cond, ◌||◌, ltb, List, sym, refl, ap, ◌∙◌, arith}
+use Rattle.std.proofs.Common.{◌≡◌, ℕ, ◌+◌, ◌<◌, false, ◌||◌, ltb, List, refl}
 use Rattle.kinds.specs.Meaning.{Meaning}
 use Rattle.std.proofs.lemmas.Bool.{cond_both, ltb-true, or_parts}
 use Rattle.questions.specs.declared.context.Context.{Context}
 use Rattle.questions.specs.declared.context.Due.{Due}
 use Rattle.questions.specs.declared.context.Due.TheVariants as due
 use Rattle.questions.proofs.Verdicts.{asked_false}
-use Rattle.records.specs.Bodies.{d, a, b}
 use Rattle.records.specs.Lines.{pg, sc, th, st, known, body}
 use Rattle.questions.specs.Asks.{asks, ask_header, ask_cell, ask_thread, ask_statement, unmarked}
 use Rattle.questions.specs.Past.{bounded, passes, past, from_thread, from_cell, from_statement, begun, past_thread, past_statement, due_next, Sound}

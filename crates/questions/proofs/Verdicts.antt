@@ -1,5 +1,5 @@
 -- What a yes to every question says.
-use Rattle.std.proofs.Common.{◌≡◌, ℕ, Bool, true, false, Ok, Err, sym, refl, ap, ◌∙◌, arith}
+use Rattle.std.proofs.Common.{◌≡◌, ℕ, Bool, true, false, Ok, Err, refl, ap, ◌∙◌, arith}
 use Rattle.records.specs.declared.refusal.RecordError.{RecordError}
 use Rattle.records.specs.declared.refusal.Refusal.{Refusal}
 use Rattle.records.specs.Verdict.{Verdict, fine, bad, asked, then}

@@ -1,5 +1,5 @@
 -- A file as its records.
-use Rattle.std.specs.Prelude.{ℕ, ◌*◌, ◌/◌, ◌<◌, Bool, cond, ◌&&◌, ◌||◌, List, ◌∷◌, map, length, take, drop, ◌==◌, slice_index}
+use Rattle.std.specs.Prelude.{ℕ, ◌*◌, ◌/◌, ◌<◌, Bool, ◌&&◌, ◌||◌, List, ◌∷◌, map, length, take, drop, ◌==◌, slice_index}
 use Rattle.std.specs.List.{range_with_len}
 use Rattle.records.specs.declared.reader.Record.{Record}
 use Rattle.records.specs.declared.reader.Record.TheVariants.{Pg, Sc, Th, St}

@@ -1,5 +1,5 @@
 -- What a session holds, and what its calls answer and leave.
-use Rattle.std.specs.Prelude.{ℕ, List, Some, None, Ok, Err, Option, Result}
+use Rattle.std.specs.Prelude.{ℕ, Some, None, Ok, Err, Option, Result}
 use Rattle.kinds.specs.declared.kind.Kind.{Ghosts}
 use Rattle.records.specs.declared.refusal.Refusal.{Refusal}
 use Rattle.records.specs.declared.refusal.Refusal.TheVariants.{NotLoaded, NotTranslated}

@@ -1,8 +1,8 @@
 -- The file of a sequential program as it is written, part by part.
-use Rattle.std.proofs.Common.{◌≡◌, ℕ, ◌+◌, ◌*◌, ◌<◌, ◌≤◌, List, [], ◌∷◌, ◌++◌, length, get_or, drop, sym, refl, ap, ◌∙◌, arith, length-append}
+use Rattle.std.proofs.Common.{◌≡◌, ℕ, ◌+◌, ◌*◌, ◌<◌, ◌≤◌, List, [], ◌++◌, length, get_or, drop, refl, ap, ◌∙◌, arith, length-append}
 use Rattle.std.proofs.lemmas.List.{drop_more, drop_all}
 use Rattle.records.specs.Wrote.{wrote}
-use Rattle.records.proofs.Writes.{advance, done}
+use Rattle.records.proofs.Writes.{advance}
 use Rattle.tables.specs.declared.text.ThreadText.{ThreadText}
 use Rattle.tables.specs.Encoded.{cell_bytes}
 use Rattle.tables.specs.Program.{Program, no_text}

@@ -1,5 +1,5 @@
 -- The file of a translation: what it is, and how long.
-use Rattle.std.proofs.Common.{◌≡◌, ℕ, ◌+◌, ◌*◌, ◌<◌, ◌≤◌, List, [], ◌∷◌, ◌++◌, length, take, sym, refl, ap, ◌∙◌, arith, length-append, length-take}
+use Rattle.std.proofs.Common.{◌≡◌, ℕ, ◌+◌, ◌*◌, ◌<◌, ◌≤◌, List, [], ◌∷◌, ◌++◌, length, refl, ap, ◌∙◌, arith, length-append, length-take}
 use Rattle.kinds.specs.declared.kind.Kind.{Ghosts}
 use native.Mathlib.Nat.{min-le_left}
 use Rattle.kinds.specs.Meaning.{Meaning}

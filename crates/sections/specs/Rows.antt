@@ -1,5 +1,5 @@
 -- The records of the sequential program's file.
-use Rattle.std.specs.Prelude.{ℕ, ◌*◌, List, [], ◌++◌, map, length}
+use Rattle.std.specs.Prelude.{ℕ, ◌*◌, List, ◌++◌, map, length}
 use Rattle.records.specs.Rows.{row, place_byte}
 use Rattle.tables.specs.Encoded.{flat}
 use Rattle.tables.specs.Program.{Program}

@@ -1,5 +1,5 @@
 -- One more instruction of a section.
-use Rattle.std.proofs.Common.{◌≡◌, ℕ, zero, suc, ◌+◌, ◌-◌, ◌<◌, ◌≤◌, Bool, true, false, List, [], ◌∷◌, length, get_or, drop, sym, refl, ap, ◌∙◌, arith}
+use Rattle.std.proofs.Common.{◌≡◌, ℕ, zero, suc, ◌+◌, ◌-◌, ◌<◌, ◌≤◌, Bool, true, false, List, length, get_or, drop, sym, refl, ap, ◌∙◌, arith}
 use Rattle.std.proofs.lemmas.List.{drop_more, drop_all}
 use Rattle.kinds.specs.Meaning.{Meaning}
 use Rattle.sequences.specs.declared.act.Act.{Act}
@@ -7,7 +7,6 @@ use Rattle.sequences.specs.declared.act.Act.TheVariants.{On, Write, Mark, To, Ba
 use Rattle.sequences.specs.declared.instruction.Instruction.{Instruction}
 use Rattle.sequences.specs.declared.section.Passage.{Passage}
 use Rattle.sequences.specs.declared.section.Passage.TheVariants.{Go, Over}
-use Rattle.sequences.specs.declared.section.SectionEnd.{SectionEnd}
 use Rattle.sequences.specs.declared.section.SectionEnd.TheVariants as end
 use Rattle.sequences.specs.declared.state.SeqState.{SeqState}
 use Rattle.sequences.specs.Acts.{Called, called, act, carried, fetched, exec}

@@ -1,6 +1,5 @@
 -- A run whose instructions hold lawful codes only leaves lawful codes only.
 use Rattle.std.proofs.Common.{◌≡◌, ℕ, zero, suc, ◌+◌, ◌-◌, Bool, true, false, cond, ◌||◌, eqb, ltb, leb, List, [], ◌∷◌, length, drop, replicate}
-use Rattle.std.specs.List.{AllByRecursion}
 use Rattle.std.proofs.ByRecursion.{All-set, All-take, All-drop}
 use Rattle.kinds.specs.Meaning.{Meaning, Lawful}
 use Rattle.records.specs.declared.statement.Place.{Place}
@@ -18,9 +17,9 @@ use Rattle.sequences.specs.declared.point.SeqPoint.{SeqPoint}
 use Rattle.sequences.specs.declared.section.SectionEnd.{SectionEnd}
 use Rattle.sequences.specs.declared.section.SectionEnd.TheVariants as end
 use Rattle.sequences.specs.declared.state.SeqState.{SeqState}
-use Rattle.sequences.specs.Acts.{Called, called, act, carried, fetched, exec, call, whole}
+use Rattle.sequences.specs.Acts.{Called, act, carried, fetched, exec, call, whole}
 use Rattle.sequences.specs.Codes.{LawfulInstruction, LawfulSection, LawfulState}
-use Rattle.sequences.specs.Drives.{Sequence, Moved, moved, Move, slot, guess, enter, save, finish, stray, first_move, returned, driven, proceed, proceeds, guessed, asked, turn, Driven, drive_from, drive_on, started_on, own_cells}
+use Rattle.sequences.specs.Drives.{Sequence, Moved, moved, Move, slot, guess, enter, save, finish, stray, first_move, returned, driven, proceed, proceeds, guessed, asked, turn, drive_from, drive_on, started_on, own_cells}
 use Rattle.sequences.specs.States.{word, with_word, value, put, locals_of, begun}
 use Rattle.sequences.specs.Words.{active, saved, stop_at}
 

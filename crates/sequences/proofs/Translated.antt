@@ -17,8 +17,8 @@ use Rattle.sequences.specs.declared.sequence.Sequence as held
 use Rattle.sequences.specs.declared.state.SeqState.{SeqState}
 use Rattle.sequences.specs.Acts.{Called, call}
 use Rattle.sequences.specs.Code.{section, driver_from, driver}
-use Rattle.sequences.specs.Drives.{Sequence, Moved, moved, Move, slot, guess, enter, save, finish, stray, move, first_move, returned, driven, proceed, proceeds, guessed, asked, turn, Driven, prefixed, drive_from, started_on, drive_on, drive}
-use Rattle.sequences.specs.Sequences.{Holds, sections_of, guide_of, codes_of, drives_so}
+use Rattle.sequences.specs.Drives.{Sequence, Moved, moved, Move, slot, guess, enter, save, finish, stray, move, first_move, returned, driven, proceed, guessed, asked, turn, prefixed, drive_from, started_on, drive_on, drive}
+use Rattle.sequences.specs.Sequences.{Holds, sections_of, codes_of, drives_so}
 use Rattle.sequences.specs.States.{word, with_word}
 use Rattle.sequences.specs.Words.{active, saved, stop_at}
 

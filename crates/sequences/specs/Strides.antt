@@ -12,7 +12,7 @@ use Rattle.sequences.specs.declared.section.SectionEnd.{SectionEnd}
 use Rattle.sequences.specs.declared.section.SectionEnd.TheVariants as end
 use Rattle.sequences.specs.declared.state.SeqState.{SeqState}
 use Rattle.sequences.specs.Acts.{Called, call}
-use Rattle.sequences.specs.Drives.{Move, slot, guess, enter, save, finish, stray, Moved, moved, point}
+use Rattle.sequences.specs.Drives.{Move, slot, guess, enter, save, finish, stray, Moved, point}
 use Rattle.sequences.specs.States.{word, with_word}
 use Rattle.sequences.specs.Words.{active, saved, stop_at}
 

@@ -9,7 +9,7 @@ use Rattle.states.specs.declared.entries.ThreadEntry.{ThreadEntry}
 use Rattle.states.specs.declared.state.MutexState.{MutexState}
 use Rattle.states.specs.declared.state.MutexState.TheVariants.{Free}
 use Rattle.states.specs.declared.state.State.{State}
-use Rattle.states.specs.Entries.{Entries, entry_of, with_entry, local_in, with_local, labelled, awake, started}
+use Rattle.states.specs.Entries.{entry_of, with_entry, local_in, with_local, labelled, awake, started}
 
 -- thread i's entry, its label, and whether it was created
 abbrev pub entry : State → ℕ → ThreadEntry

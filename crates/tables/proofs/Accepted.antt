@@ -1,27 +1,24 @@
 -- An accepted file is the file of the program that it holds.
-use Rattle.std.proofs.Common.{◌≡◌, ℕ, zero, suc, ◌+◌, ◌-◌, ◌*◌, ◌/◌, ◌%◌, ◌<◌, ◌≤◌, Bool, true, false, cond, ◌&&◌, eqb, leb, ◌⊎◌, List, [], ◌∷◌, ◌++◌, map, length, get_or, take, drop, filter, sym, refl, ap, ◌∙◌, subst, inl, inr, arith, length-drop, length-take, take-add}
+use Rattle.std.proofs.Common.{◌≡◌, ℕ, zero, suc, ◌+◌, ◌*◌, ◌/◌, ◌%◌, ◌≤◌, Bool, true, false, cond, ◌&&◌, eqb, leb, List, ◌∷◌, map, length, take, drop, filter, sym, refl, ap, ◌∙◌, subst, inl, inr, arith, length-drop, length-take, take-add}
 use lib.ListN.{length-map}
 use Rattle.kinds.specs.Meaning.{Meaning}
 use Rattle.std.specs.List.{range_with_len, AllByRecursion}
 use Rattle.std.proofs.lemmas.Bool.{and_parts, leb-true, eqb-true, cases_lt}
 use Rattle.std.proofs.lemmas.List.{get_or-take, get_or-drop, get_or_past, drop-drop, take_all}
-use Rattle.questions.specs.declared.context.Context.{Context}
-use Rattle.records.specs.Verdict.{fine}
 use Rattle.questions.specs.Answer.{Answer, accepted, refused}
 use Rattle.records.specs.Bodies.{a, b, d}
 use Rattle.records.specs.Lines.{Bytes, line, lines, pg, sc, th, st, body}
 use Rattle.questions.specs.Asks.{ask, ask_header}
 use Rattle.questions.specs.Past.{past, start, begun}
 use Rattle.questions.specs.Question.{follow, sized, question}
-use Rattle.tables.specs.Program.{onto, bare, decoded, code, told, texts}
-use Rattle.records.specs.Rows.{row}
-use Rattle.tables.specs.Encoded.{rows, header_row, cell_rows, thread_rows, flat, encoded}
+use Rattle.tables.specs.Program.{onto, bare, decoded, code, texts}
+use Rattle.tables.specs.Encoded.{rows, flat, encoded}
 use Rattle.questions.proofs.Verdicts.{from_asked}
 use Rattle.questions.proofs.Sounds.{past_sound}
 use Rattle.questions.proofs.Follows.{lines_more}
 use Rattle.tables.proofs.Ontos.{length_texts}
 use Rattle.tables.proofs.Rows.{Whole, header_back}
-use Rattle.tables.proofs.Backs.{main, Cells, cell_form, onward_parts, only_pg, leave}
+use Rattle.tables.proofs.Backs.{main, cell_form, onward_parts, only_pg, leave}
 use Rattle.records.specs.declared.refusal.Refusal.TheVariants as no
 
 -- a file that is accepted, in parts

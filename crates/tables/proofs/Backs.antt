@@ -1,8 +1,8 @@
 -- The records of an accepted file are those of the program that it holds.
-use Rattle.std.proofs.Common.{◌≡◌, ℕ, suc, ◌+◌, ◌-◌, ◌<◌, ◌≤◌, Bool, true, false, cond, ◌&&◌, eqb, ltb, List, [], ◌∷◌, ◌++◌, map, length, get_or, take, drop, Ok, Err, filter, sym, refl, ap, ◌∙◌, arith}
+use Rattle.std.proofs.Common.{◌≡◌, ℕ, suc, ◌+◌, ◌-◌, ◌<◌, ◌≤◌, Bool, true, false, cond, ltb, List, [], ◌∷◌, ◌++◌, map, length, take, drop, Ok, Err, filter, refl, ap, ◌∙◌, arith}
 use Rattle.kinds.specs.Meaning.{Meaning}
 use Rattle.std.specs.List.{AllByRecursion}
-use Rattle.std.proofs.lemmas.Bool.{cond_both, ltb-true, ltb-false}
+use Rattle.std.proofs.lemmas.Bool.{cond_both, ltb-false}
 use Rattle.std.proofs.lemmas.Bool.Decides.{nat_tests}
 use Rattle.std.proofs.lemmas.List.{get_or-drop}
 use Rattle.questions.specs.declared.context.Context.{Context}
@@ -17,7 +17,7 @@ use Rattle.questions.specs.Past.{past, passes, from_cell, from_thread, from_stat
 use Rattle.questions.specs.Question.{follow, onward, ended}
 use Rattle.tables.specs.Program.{code, told, texts}
 use Rattle.records.specs.Rows.{statement_row}
-use Rattle.tables.specs.Encoded.{cell_row, cell_rows, thread_row, thread_rows}
+use Rattle.tables.specs.Encoded.{cell_rows, thread_rows}
 use Rattle.questions.proofs.Verdicts.{from_asked}
 use Rattle.questions.proofs.Sounds.{past_sound}
 use Rattle.tables.proofs.Rows.{Whole, cell_back, text_back, statement_back}

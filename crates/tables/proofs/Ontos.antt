@@ -4,10 +4,9 @@ use lib.ListN.{length-map}
 use Rattle.std.proofs.lemmas.Bool.{cond_both}
 use Rattle.tables.specs.declared.text.ThreadText.{ThreadText}
 use Rattle.records.specs.Bodies.{a}
-use Rattle.records.specs.Lines.{line, lines, body, sc, th, st, known}
+use Rattle.records.specs.Lines.{line, lines, body, sc, th, st}
 use Rattle.tables.specs.Program.{Program, code, told, text, texts, onto, with_record, behind, decoded}
 use Rattle.questions.proofs.Follows.{lines_more, lines_all}
-use Rattle.questions.proofs.Sounds.{no_mark}
 
 push : {X Y : Type 0} (g : X → Y) (x : X) (b : Bool) (ys : List Y) (rest : List X) → ys ++ map g (cond b (x ∷ rest) rest) ≡ cond b (ys ++ g x ∷ []) ys ++ map g rest
 push g x true ys rest = sym (append_assoc ys (g x ∷ []) (map g rest))

@@ -19,7 +19,7 @@ use Rattle.questions.specs.Answer.{Answer, accepted}
 use Rattle.records.specs.Bodies.{within, place_at, label_at}
 use Rattle.records.specs.Lines.{line, lines, body}
 use Rattle.questions.specs.Asks.{exists, target, named, ask, asks, ask_fields}
-use Rattle.questions.specs.Past.{start, begun, due_next, past_thread, past_statement, names, from_cell, from_thread, from_statement}
+use Rattle.questions.specs.Past.{start, begun, due_next, past_thread, past_statement, from_cell, from_thread, from_statement}
 use Rattle.records.specs.Rows.{place_byte, statement_row}
 use Rattle.tables.specs.Encoded.{rows, header_row, cell_row, cell_rows, thread_row, thread_rows, flat, encoded}
 use Rattle.tables.specs.WellFormed.{There, Fit, Numbered, Threads, WellFormed, creating, creates}

@@ -1,14 +1,14 @@
 -- A record whose questions all have a yes is the record of what it says.
-use Rattle.std.proofs.Common.{◌≡◌, ℕ, zero, suc, ◌+◌, ◌-◌, ◌*◌, ◌/◌, ◌%◌, ◌^◌, ◌<◌, ◌≤◌, Bool, true, false, cond, ◌&&◌, ◌||◌, eqb, ltb, leb, List, [], ◌∷◌, length, get_or, sym, refl, ap, ◌∙◌, arith}
+use Rattle.std.proofs.Common.{◌≡◌, ℕ, zero, suc, ◌+◌, ◌-◌, ◌*◌, ◌/◌, ◌%◌, ◌^◌, ◌<◌, ◌≤◌, true, false, ◌&&◌, ◌||◌, eqb, ltb, leb, List, [], ◌∷◌, length, get_or, refl, ◌∙◌, arith}
 use Rattle.kinds.specs.Meaning.{Meaning}
-use Rattle.std.proofs.lemmas.Bool.{and_parts, cond_both, eqb-true, leb-true, ltb-true, ltb-false}
+use Rattle.std.proofs.lemmas.Bool.{and_parts, cond_both, eqb-true, leb-true, ltb-false}
 use Rattle.records.specs.declared.body.Used.{Used}
 use Rattle.questions.specs.declared.context.Context.{Context}
 use Rattle.records.specs.declared.statement.Place.TheVariants.{Shared, Local}
 use Rattle.records.specs.declared.statement.Statement.{Statement}
 use Rattle.records.specs.declared.statement.Statement.TheVariants.{Set, Copy, Sum, Difference, Less, Same, Jump, Branch, Assume, Assert, Init, Destroy, Lock, Unlock, Create, Join}
-use Rattle.records.specs.Verdict.{fine, asked, then}
-use Rattle.records.specs.Bodies.{op, d, a, b, c, unused, uses, within, fields, place_at, statement}
+use Rattle.records.specs.Verdict.{fine}
+use Rattle.records.specs.Bodies.{d, a, b, c, unused, uses, within, fields, place_at, statement}
 use Rattle.records.specs.Lines.{pg, sc, th, st, body}
 use Rattle.questions.specs.Asks.{exists, target, ask_header, ask_cell, ask_thread, ask_fields, ask_known, ask_statement}
 use Rattle.tables.specs.Program.{code, told, text}

@@ -1,5 +1,5 @@
 -- The records of a program, one after another.
-use Rattle.std.proofs.Common.{◌≡◌, ℕ, suc, ◌+◌, ◌-◌, ◌*◌, ◌<◌, ◌≤◌, min, leb, ◌⊎◌, List, [], ◌∷◌, ◌++◌, map, length, get_or, take, drop, Ok, Err, Result, sym, refl, ap, ◌∙◌, inl, inr, append_assoc, arith, length-append}
+use Rattle.std.proofs.Common.{◌≡◌, ℕ, suc, ◌+◌, ◌-◌, ◌*◌, ◌<◌, ◌≤◌, min, leb, List, [], ◌∷◌, ◌++◌, map, length, get_or, take, drop, Ok, Err, sym, refl, ap, ◌∙◌, inl, inr, append_assoc, arith, length-append}
 use lib.ListN.{length-map}
 use Rattle.std.specs.List.{AllByRecursion}
 use Rattle.std.proofs.lemmas.List.{drop_more, drop_all, drop-drop, take_all, length-drop, length-take-le}
@@ -9,7 +9,6 @@ use Rattle.records.specs.declared.statement.Statement.TheVariants.{Set, Copy, Su
 use Rattle.tables.specs.declared.text.ThreadText.{ThreadText}
 use Rattle.records.specs.Rows.{statement_row}
 use Rattle.tables.specs.Encoded.{cell_row, cell_rows, thread_row, thread_rows, flat, cell_bytes, own_bytes, own_thread_bytes, thread_bytes, header_row, encoded}
-use Rattle.records.specs.declared.refusal.Refusal.{Refusal}
 use Rattle.records.specs.declared.refusal.Refusal.TheVariants.{BufferShort}
 use Rattle.tables.specs.Program.{Program}
 use Rattle.records.specs.Wrote.{wrote, counted, filled}

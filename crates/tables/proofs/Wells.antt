@@ -1,5 +1,5 @@
 -- The program of an accepted file is well formed.
-use Rattle.std.proofs.Common.{◌≡◌, ℕ, suc, ◌+◌, ◌-◌, ◌*◌, ◌/◌, ◌%◌, ◌^◌, ◌<◌, ◌≤◌, Bool, true, false, cond, not, ◌&&◌, eqb, ltb, leb, List, [], ◌∷◌, ◌++◌, map, length, take, drop, filter, sym, refl, ap, ◌∙◌, subst, suc-le-suc, arith}
+use Rattle.std.proofs.Common.{◌≡◌, ℕ, suc, ◌+◌, ◌-◌, ◌*◌, ◌/◌, ◌%◌, ◌^◌, ◌<◌, ◌≤◌, true, false, not, ◌&&◌, eqb, ltb, leb, List, [], ◌∷◌, map, length, take, drop, filter, sym, refl, ap, ◌∙◌, subst, suc-le-suc, arith}
 use native.Mathlib.Nat.{div-div-eq-div-mul}
 use Rattle.kinds.specs.Meaning.{Meaning}
 use Rattle.std.specs.List.{AllByRecursion}
@@ -15,11 +15,11 @@ use Rattle.records.specs.declared.statement.Statement as s
 use Rattle.records.specs.declared.statement.Statement.TheVariants.{Set, Copy, Sum, Difference, Less, Same, Jump, Branch, Assume, Assert, Init, Destroy, Lock, Unlock, Create, Join}
 use Rattle.records.specs.Verdict.{fine, asked, then}
 use Rattle.questions.specs.Answer.{accepted}
-use Rattle.records.specs.Bodies.{op, a, b, c, d, unused, uses, within, fields}
+use Rattle.records.specs.Bodies.{op, a, c, d, unused, uses, within, fields}
 use Rattle.records.specs.Lines.{Bytes, line, lines, pg, sc, th, st, body}
 use Rattle.questions.specs.Asks.{exists, target, named, ask, asks, ask_header, ask_cell, ask_thread, ask_statement, ask_known, ask_fields}
 use Rattle.questions.specs.Past.{past, passes, start, begun, from_cell, from_thread, from_statement, bounded, Sound}
-use Rattle.records.specs.Rows.{four, statement_row}
+use Rattle.records.specs.Rows.{statement_row}
 use Rattle.tables.specs.WellFormed.{Counts, counts, There, Fit, Numbered, Threads, WellFormed, creates}
 use Rattle.questions.specs.Question.{follow, ended, question}
 use Rattle.tables.specs.Program.{code, told, texts, onto, bare, decoded}

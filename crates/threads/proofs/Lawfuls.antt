@@ -1,5 +1,5 @@
 -- A run of a well-formed program holds lawful codes only.
-use Rattle.std.proofs.Common.{◌≡◌, ℕ, zero, suc, ◌+◌, ◌<◌, ◌≤◌, Bool, true, false, cond, eqb, ltb, List, [], ◌∷◌, ◌++◌, length, get_or, take, drop, set, replicate, Some, None, Option, sym, refl, ap, ◌∙◌, subst}
+use Rattle.std.proofs.Common.{◌≡◌, ℕ, zero, suc, ◌+◌, Bool, true, false, cond, eqb, ltb, List, [], ◌∷◌, length, take, drop, replicate, Some, None, Option, sym, subst}
 use Rattle.std.specs.List.{AllByRecursion, slice_get}
 use Rattle.std.proofs.ByRecursion.{All-append, All-set, All-take, All-drop}
 use Rattle.std.proofs.lemmas.List.{take-append-drop}
@@ -28,7 +28,7 @@ use Rattle.states.specs.Entries.{no_entry, asleep, awake, labelled, with_local}
 use Rattle.tables.specs.Slots.{program_slots, slot_total}
 use Rattle.threads.specs.Plays.{Played, closed, served, serve, rounds_by, rounds, bound, thread, play, cells_of}
 use Rattle.threads.specs.Slots.{Ran, ran, run, stops, unless_stopped, slot_of}
-use Rattle.states.specs.States.{entry, label, created, value, put, go, mark, create, change, padded, beginning, mutex}
+use Rattle.states.specs.States.{entry, label, created, value, put, go, create, beginning, mutex}
 use Rattle.threads.specs.Steps.{progress, after}
 
 -- the code that stands in a statement

@@ -1,7 +1,7 @@
 -- The rules of slots make a runner: its laws, for any way to serve a slot and any bound.
-use Rattle.std.specs.Prelude.{◌≡◌, ℕ, zero, suc, ◌+◌, ◌<◌, ◌≤◌, Bool, true, false, cond, ◌⊎◌, List, [], ◌∷◌, ◌++◌, length, ◌≢◌}
+use Rattle.std.specs.Prelude.{◌≡◌, ℕ, ◌<◌, ◌≤◌, true, false, cond, List, [], ◌∷◌, ◌++◌, length, ◌≢◌}
 use Rattle.std.proofs.Math.Path.{refl, ap}
-use Rattle.std.proofs.Common.{sym, subst, ◌∙◌, inl, inr, ⊎_elim, arith}
+use Rattle.std.proofs.Common.{sym, subst, ◌∙◌, ⊎_elim, arith}
 use Rattle.std.proofs.lemmas.Bool.{cases_Bool}
 use Rattle.states.specs.declared.state.State.{State}
 use Rattle.states.specs.States.{created}
@@ -13,7 +13,7 @@ use Rattle.walks.specs.Outcomes.{IsOpen}
 use Rattle.walks.specs.Runs.{Lawful}
 use Rattle.threads.specs.declared.slot.SlotEnd.{SlotEnd}
 use Rattle.threads.specs.declared.slot.SlotEnd.TheVariants.{Done, Failed, Cut}
-use Rattle.threads.specs.Plays.{Played, closed, served_by, rounds_by}
+use Rattle.threads.specs.Plays.{closed, served_by, rounds_by}
 use Rattle.threads.specs.Slots.{Ran}
 
 -- two endings, or an ending and an open run, are never the same

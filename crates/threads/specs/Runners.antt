@@ -1,5 +1,5 @@
 -- The thread machine is a runner: its laws, its first point, and one step.
-use Rattle.std.specs.Prelude.{◌≡◌, ℕ, zero, suc, ◌+◌, ◌-◌, ◌*◌, ◌%◌, ◌<◌, ◌≤◌, true, false, cond, List, [], ◌∷◌, ◌++◌, length, drop, Some, None, Option, nat_lt, slice_index_or, refl}
+use Rattle.std.specs.Prelude.{◌≡◌, ℕ, zero, suc, ◌+◌, ◌*◌, ◌%◌, ◌<◌, ◌≤◌, cond, List, [], ◌∷◌, ◌++◌, drop, Some, None, Option, nat_lt, slice_index_or, refl}
 use Rattle.std.proofs.Common.{sym, ap, subst, ◌∙◌, append_assoc, arith}
 use Rattle.std.proofs.lemmas.Nat.{mul-le}
 use Rattle.std.proofs.lemmas.List.FromFn.{length-map-range_with_len}
@@ -9,9 +9,9 @@ use Rattle.kinds.specs.Meaning.{Meaning}
 use Rattle.records.specs.declared.statement.Statement.{Statement}
 use Rattle.records.specs.declared.statement.Thread.{Thread}
 use Rattle.states.specs.declared.state.State.{State}
-use Rattle.states.specs.States.{created, beginning}
+use Rattle.states.specs.States.{beginning}
 use Rattle.tables.specs.declared.text.ThreadText.{ThreadText}
-use Rattle.tables.specs.Program.{Program, size, no_text}
+use Rattle.tables.specs.Program.{Program, no_text}
 use Rattle.tables.specs.WellFormed.{Threads, WellFormed}
 use Rattle.walks.specs.declared.outcome.Ending.TheVariants.{Full}
 use Rattle.walks.specs.declared.outcome.Outcome.{Outcome}
@@ -26,7 +26,7 @@ use Rattle.threads.specs.Effects.{next}
 use Rattle.threads.specs.Machines.{program, total, plays}
 use Rattle.tables.specs.Slots.{slots, program_slots, slot_total}
 use Rattle.threads.specs.Plays.{Played, serve, bound, rounds, play, thread}
-use Rattle.threads.specs.Points.{Ready, Follows}
+use Rattle.threads.specs.Points.{Follows}
 use Rattle.threads.specs.Slots.{Ran, ran, run, stops, unless_stopped, slot_of}
 use Rattle.threads.specs.Steps.{progress, after}
 use Rattle.threads.specs.Turns.{width, first, standing, Turned, turn, Stands, rest}

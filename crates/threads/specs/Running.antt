@@ -1,5 +1,5 @@
 -- The loop of a run over a list of numbers.
-use Rattle.std.specs.Prelude.{◌≡◌, ℕ, ◌+◌, ◌*◌, ◌%◌, ◌<◌, ◌≤◌, true, false, cond, List, [], ◌∷◌, ◌++◌, length, take, drop, sum, nat_lt, slice_index, slice_set, refl}
+use Rattle.std.specs.Prelude.{◌≡◌, ℕ, ◌+◌, ◌*◌, ◌%◌, ◌<◌, ◌≤◌, List, [], ◌∷◌, ◌++◌, length, take, drop, sum, nat_lt, slice_index, slice_set, refl}
 use Rattle.std.proofs.Common.{sym, ap, subst, ◌∙◌, append_assoc, append-nil, arith, length-set, drop-set-lt}
 use Rattle.std.proofs.lemmas.List.{drop_more, drop_all, drop-drop, take-append-drop, take_more_set, get_or_default, length-take-le}
 use Rattle.std.proofs.lemmas.List.Sums.{sum_by_push}
@@ -15,7 +15,7 @@ use Rattle.reports.specs.declared.report.Report.{Report}
 use Rattle.reports.specs.Reports.{front}
 use Rattle.threads.specs.declared.slot.SlotEnd.{SlotEnd}
 use Rattle.threads.specs.declared.slot.SlotEnd.TheVariants as end
-use Rattle.threads.specs.Plays.{Played, played, prefixed, bound, serve}
+use Rattle.threads.specs.Plays.{Played, played, bound, serve}
 use Rattle.threads.specs.Reports.{reported}
 use Rattle.threads.specs.Slots.{Ran}
 use Rattle.threads.specs.Turns.{width, standing, Turned, turned_so, turn, Stands, rest, landed}

@@ -1,13 +1,13 @@
 -- A run goes on from a point by one number.
-use Rattle.std.specs.Prelude.{◌≡◌, ℕ, zero, suc, ◌+◌, ◌-◌, ◌%◌, ◌<◌, ◌≤◌, Bool, true, false, cond, ◌⊎◌, List, [], ◌∷◌, length, drop, nat_lt, refl}
+use Rattle.std.specs.Prelude.{◌≡◌, ℕ, zero, suc, ◌+◌, ◌-◌, ◌%◌, ◌<◌, ◌≤◌, true, false, cond, List, [], ◌∷◌, drop, nat_lt, refl}
 use Rattle.std.proofs.Common.{sym, ◌∙◌, inl, inr, arith}
 use Rattle.std.proofs.Math.Path.{ap}
 use Rattle.std.proofs.lemmas.List.FromFn.{length-map-range_with_len, get_or-map-range_with_len}
 use Rattle.std.proofs.lemmas.List.{drop_more, drop_all}
-use Rattle.std.proofs.lemmas.Bool.{cases_Bool, cases_lt, cond_both, ltb-true, ltb-false, lt-ltb, le-ltb}
+use Rattle.std.proofs.lemmas.Bool.{cases_Bool, cond_both, ltb-false, lt-ltb}
 use Rattle.kinds.specs.Meaning.{Meaning}
 use Rattle.tables.specs.Program.{Program}
-use Rattle.walks.specs.declared.outcome.Ending.TheVariants.{Failed, Cut, Full}
+use Rattle.walks.specs.declared.outcome.Ending.TheVariants.{Full}
 use Rattle.walks.specs.declared.outcome.Outcome.{Outcome}
 use Rattle.walks.specs.declared.outcome.Outcome.TheVariants.{Open, Ended}
 use Rattle.threads.specs.declared.point.Point.{Point}

@@ -1,5 +1,4 @@
-use Rattle.std.proofs.Common.{◌≡◌, refl, sym, ◌∙◌, Ok, Err}
-use Rattle.questions.specs.Answer.{Answer}
+use Rattle.std.proofs.Common.{sym, ◌∙◌}
 use Rattle.jobs.specs.Models.{loaded, translate_next}
 use Rattle.tables.specs.Program.{decoded}
 use Rattle.burner.proofs.Quickly.{load_refused, rounds_refused, walk_told, has_loaded}

@@ -1,4 +1,4 @@
-use Rattle.std.proofs.Common.{◌≡◌, sym, refl, ap, ◌∙◌, subst}
+use Rattle.std.proofs.Common.{sym, ap, ◌∙◌, subst}
 use Rattle.questions.specs.Asks.{ask}
 use Rattle.questions.specs.Past.{past, Sound}
 use Rattle.questions.proofs.Sounds.{past_sound, asks_unknown}

@@ -1,6 +1,4 @@
-use Rattle.std.proofs.Common.{◌≡◌, ℕ, ◌+◌, ◌-◌, ◌*◌, List, ◌∷◌, get_or, take, drop, refl, arith, rules}
-use Rattle.std.proofs.lemmas.Bool.Decides.{nat_tests}
-use Rattle.records.specs.Lines.{line, known}
+use Rattle.std.proofs.Common.{refl, arith, rules}
 use Rattle.records.proofs.Split.{split}
 use Rattle.records.proofs.reader.record_at.Goals as goal
 

@@ -1,4 +1,4 @@
-use Rattle.std.proofs.Common.{◌≡◌, ◌<◌, length, ap, arith}
+use Rattle.std.proofs.Common.{◌<◌, length, ap, arith}
 use Rattle.sequences.specs.Sequences.{sections_of}
 use Rattle.tables.specs.Tables.{view}
 use Rattle.sections.proofs.Emits.{length_more, sections_all}

@@ -1,4 +1,4 @@
-use Rattle.std.proofs.Common.{◌≡◌, length, ap, ◌∙◌, arith, length-append}
+use Rattle.std.proofs.Common.{length, ap, ◌∙◌, arith}
 use Rattle.records.specs.Wrote.{wrote}
 use Rattle.sequences.specs.Sequences.{guide_of, sections_of}
 use Rattle.tables.specs.Encoded.{cell_bytes}

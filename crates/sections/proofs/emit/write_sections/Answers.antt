@@ -1,4 +1,4 @@
-use Rattle.std.proofs.Common.{◌≡◌, ◌+◌, ◌<◌, length, drop, ap, arith}
+use Rattle.std.proofs.Common.{◌+◌, ◌<◌, length, drop, ap, arith}
 use Rattle.records.proofs.Writes.{advance, done}
 use Rattle.sequences.specs.Code.{thread}
 use Rattle.sequences.specs.Sequences.{sections_of}

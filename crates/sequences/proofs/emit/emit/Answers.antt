@@ -1,4 +1,4 @@
-use Rattle.std.proofs.Common.{◌≡◌, vec_items, ◌∙◌, arith}
+use Rattle.std.proofs.Common.{vec_items, ◌∙◌, arith}
 use Rattle.sequences.proofs.Rooms.{room_one, room_full}
 use Rattle.sequences.proofs.emit.emit.Goals as goal
 

@@ -1,4 +1,4 @@
-use Rattle.std.proofs.Common.{◌≡◌, [], ◌∷◌, ◌++◌, take, vec_items, sym, ap, ◌∙◌}
+use Rattle.std.proofs.Common.{[], ◌∷◌, ◌++◌, take, vec_items, sym, ap, ◌∙◌}
 use Rattle.sequences.specs.declared.inner.Inner.{Inner}
 use Rattle.sequences.specs.Writes.{listed}
 use Rattle.sequences.proofs.Rooms.{room_more}

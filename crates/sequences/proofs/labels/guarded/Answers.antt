@@ -1,4 +1,4 @@
-use Rattle.std.proofs.Common.{◌≡◌, sym, ◌∙◌}
+use Rattle.std.proofs.Common.{sym, ◌∙◌}
 use Rattle.sequences.proofs.Ways.{guarded_here, guarded_later, guarded_never}
 use Rattle.sequences.proofs.labels.guarded.Goals as goal
 

@@ -1,4 +1,4 @@
-use Rattle.std.proofs.Common.{◌≡◌, ◌+◌, ◌-◌, ◌≤◌, length, sym, ap, ◌∙◌, subst, arith}
+use Rattle.std.proofs.Common.{◌+◌, ◌-◌, ◌≤◌, length, sym, ap, ◌∙◌, subst, arith}
 use Rattle.sequences.specs.Acts.{called, exec}
 use Rattle.sequences.proofs.Execs.{exec_after, exec_past, exec_none, tally_most}
 use Rattle.sequences.proofs.section.call_section.Goals as goal

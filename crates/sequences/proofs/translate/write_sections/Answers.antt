@@ -1,4 +1,4 @@
-use Rattle.std.proofs.Common.{◌≡◌, ◌<◌, length, vec_items, ap, ◌∙◌, arith}
+use Rattle.std.proofs.Common.{◌<◌, length, vec_items, ap, ◌∙◌, arith}
 use Rattle.tables.specs.Tables.{view}
 use Rattle.sequences.specs.Sequences.{part_between}
 use Rattle.sequences.specs.Writes.{Low}

@@ -1,4 +1,4 @@
-use Rattle.std.proofs.Common.{◌≡◌, ◌*◌, ◌<◌, ◌≤◌, ◌++◌, length, take, vec_items, sym, ap, ◌∙◌, arith}
+use Rattle.std.proofs.Common.{◌<◌, ◌≤◌, ◌++◌, length, take, vec_items, sym, ap, ◌∙◌, arith}
 use Rattle.tables.specs.Tables.{view}
 use Rattle.tables.specs.Slots.{slot_total}
 use Rattle.sequences.proofs.Writings.{driver_start, driver_more, driver_ends, threads_some}

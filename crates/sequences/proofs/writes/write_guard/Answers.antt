@@ -1,4 +1,4 @@
-use Rattle.std.proofs.Common.{◌≡◌, ◌++◌, take, vec_items, sym, ap, ◌∙◌, append-nil, arith}
+use Rattle.std.proofs.Common.{◌++◌, take, vec_items, sym, ap, ◌∙◌, arith}
 use Rattle.sequences.specs.Code.{guards}
 use Rattle.sequences.proofs.Rooms.{room_same}
 use Rattle.sequences.proofs.writes.write_guard.Goals as goal

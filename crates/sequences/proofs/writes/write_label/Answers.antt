@@ -1,6 +1,5 @@
-use Rattle.std.proofs.Common.{◌≡◌, [], ◌∷◌, ◌++◌, take, vec_items, ap, ◌∙◌}
+use Rattle.std.proofs.Common.{[], ◌∷◌, ◌++◌, take, vec_items, ap, ◌∙◌}
 use Rattle.tables.specs.Tables.{view}
-use Rattle.sequences.specs.Code.{guards, guarded}
 use Rattle.sequences.proofs.Writings.{room_label}
 use Rattle.sequences.proofs.writes.write_label.Goals as goal
 

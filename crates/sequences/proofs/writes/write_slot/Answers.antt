@@ -1,4 +1,4 @@
-use Rattle.std.proofs.Common.{◌≡◌, [], ◌∷◌, ◌++◌, take, vec_items, ap, ◌∙◌}
+use Rattle.std.proofs.Common.{[], ◌∷◌, ◌++◌, take, vec_items, ap, ◌∙◌}
 use Rattle.sequences.specs.declared.instruction.Instruction.TheVariants as op
 use Rattle.sequences.proofs.Writings.{room_four}
 use Rattle.sequences.proofs.writes.write_slot.Goals as goal

@@ -1,4 +1,4 @@
-use Rattle.std.proofs.Common.{◌≡◌, ap, ◌∙◌}
+use Rattle.std.proofs.Common.{ap, ◌∙◌}
 use Rattle.tables.specs.Program.{decoded}
 use Rattle.threads.specs.Plays.{play}
 use Rattle.surveys.specs.Totals.{totals_of}

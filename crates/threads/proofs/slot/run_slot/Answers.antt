@@ -1,4 +1,4 @@
-use Rattle.std.proofs.Common.{◌≡◌, sym, ◌∙◌, arith}
+use Rattle.std.proofs.Common.{sym, ◌∙◌, arith}
 use Rattle.threads.proofs.Runs.{run_after, run_none}
 use Rattle.threads.proofs.slot.run_slot.Goals as goal
 

@@ -1,4 +1,4 @@
-use Rattle.std.proofs.Common.{◌≡◌, length, ◌∙◌}
+use Rattle.std.proofs.Common.{◌∙◌}
 use Rattle.replay.specs.Sessions.{held, wants_program}
 use Rattle.replay.specs.Replies.{file_of}
 use Rattle.replay.proofs.Replying.{lent_cut, saved_so}

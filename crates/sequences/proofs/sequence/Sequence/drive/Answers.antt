@@ -1,4 +1,4 @@
-use Rattle.std.proofs.Common.{◌≡◌, length, Ok, sym, ap, ◌∙◌}
+use Rattle.std.proofs.Common.{Ok, sym, ap, ◌∙◌}
 use Rattle.reports.specs.Reports.{front, refusal, answered, unless}
 use Rattle.reports.proofs.Answers.{refused_by, accepted_by}
 use Rattle.sequences.proofs.Translated.{drives_translated}

@@ -1,10 +1,10 @@
-use Rattle.std.proofs.Common.{◌≡◌, ◌-◌, ◌≤◌, length, take, sym, ap, ◌∙◌, arith}
+use Rattle.std.proofs.Common.{◌≡◌, ◌-◌, ◌≤◌, length, take, ap, ◌∙◌, arith}
 use Rattle.std.proofs.lemmas.List.{length-take-le}
 use Rattle.reports.specs.Reports.{front}
 use Rattle.reports.proofs.Answers.{copied_front}
 use Rattle.sequences.specs.declared.state.SeqState.{SeqState}
 use Rattle.sequences.specs.Drives.{Driven, own_cells}
-use Rattle.sequences.specs.Sequences.{instructions, codes_of, drives_so, cells_left, reported}
+use Rattle.sequences.specs.Sequences.{instructions, codes_of, reported}
 use Rattle.sequences.proofs.Driving.{driven_from_first}
 use Rattle.sequences.proofs.sequence.Sequence.driven.Goals as goal
 

@@ -1,4 +1,4 @@
-use Rattle.std.proofs.Common.{◌≡◌, ◌<◌, ◌≤◌, length, sym, ◌∙◌, arith}
+use Rattle.std.proofs.Common.{◌<◌, ◌≤◌, length, sym, ◌∙◌, arith}
 use Rattle.sequences.specs.Sequences.{instructions, guide_of}
 use Rattle.sequences.proofs.Strides.{proceed_after, proceed_none}
 use Rattle.sequences.proofs.sequence.Sequence.proceed.Goals as goal

@@ -1,4 +1,4 @@
-use Rattle.std.proofs.Common.{◌≡◌, ◌≤◌, length, refl, ◌∙◌, subst, arith}
+use Rattle.std.proofs.Common.{◌≤◌, length, refl, ◌∙◌, subst, arith}
 use Rattle.sequences.specs.Drives.{drive_from}
 use Rattle.sequences.specs.Sequences.{instructions}
 use Rattle.sequences.specs.Strides.{with_point}

@@ -1,4 +1,4 @@
-use Rattle.std.proofs.Common.{◌≡◌, ◌++◌, take, ap, ◌∙◌, arith}
+use Rattle.std.proofs.Common.{◌++◌, take, ap, ◌∙◌, arith}
 use Rattle.tables.specs.Tables.{view}
 use Rattle.sequences.specs.Code.{driver}
 use Rattle.sequences.proofs.Drivers.{driver_fits}

@@ -1,4 +1,4 @@
-use Rattle.std.proofs.Common.{◌≡◌, [], set, sym, ap, ◌∙◌, rules}
+use Rattle.std.proofs.Common.{◌≡◌, set, rules}
 use Rattle.std.proofs.lemmas.List.{set_past}
 use Rattle.sequences.specs.States.{locals_of}
 use Rattle.sequences.proofs.state.SeqState.set_local.Goals as goal

@@ -1,4 +1,4 @@
-use Rattle.std.proofs.Common.{◌≡◌, ◌+◌, vec_items, arith}
+use Rattle.std.proofs.Common.{◌+◌, vec_items, arith}
 use Rattle.tables.specs.Encoded.{own_thread_bytes, thread_bytes}
 use Rattle.tables.proofs.Saves.{threads_more, threads_all}
 use Rattle.records.proofs.Writes.{room, advance, done}

@@ -1,4 +1,4 @@
-use Rattle.std.proofs.Common.{◌≡◌, take, drop, vec_items, ap, ◌∙◌, arith, rules}
+use Rattle.std.proofs.Common.{take, drop, vec_items, ap, ◌∙◌, arith, rules}
 use Rattle.std.specs.List.{slice_get}
 use Rattle.tables.specs.declared.text.ThreadText.{ThreadText}
 use Rattle.tables.proofs.Texts.{item_past, item_there, item_beyond}

@@ -1,4 +1,4 @@
-use Rattle.std.proofs.Common.{◌≡◌, ◌+◌, length, vec_items, ap, arith, length-append}
+use Rattle.std.proofs.Common.{◌+◌, length, vec_items, ap, arith, length-append}
 use Rattle.tables.specs.Encoded.{own_thread_bytes, thread_bytes}
 use Rattle.tables.proofs.Saves.{threads_more, threads_all, length_text}
 use Rattle.tables.proofs.table.Table.threads_len.Goals as goal

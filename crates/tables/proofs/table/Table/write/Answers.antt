@@ -1,4 +1,4 @@
-use Rattle.std.proofs.Common.{◌≡◌, ◌++◌, length, ap, arith, length-append}
+use Rattle.std.proofs.Common.{◌++◌, length, ap, arith, length-append}
 use Rattle.tables.specs.Encoded.{header_row, cell_bytes, thread_bytes}
 use Rattle.tables.specs.Tables.{view}
 use Rattle.tables.proofs.Saves.{encoded_parts, all_written}

@@ -1,4 +1,4 @@
-use Rattle.std.proofs.Common.{◌≡◌, length, Ok, sym, ap, ◌∙◌}
+use Rattle.std.proofs.Common.{length, Ok, sym, ap, ◌∙◌}
 use Rattle.threads.specs.Machines.{program, plays, cells_left}
 use Rattle.reports.specs.Reports.{front, refusal, answered, unless}
 use Rattle.reports.proofs.Answers.{refused_by, accepted_by}

@@ -1,7 +1,7 @@
-use Rattle.std.proofs.Common.{◌≡◌, ◌-◌, ◌≤◌, length, take, sym, ap, ◌∙◌, arith}
+use Rattle.std.proofs.Common.{◌≡◌, ◌-◌, ◌≤◌, length, take, ap, ◌∙◌, arith}
 use Rattle.std.proofs.lemmas.List.{length-take-le}
 use Rattle.states.specs.declared.state.State.{State}
-use Rattle.threads.specs.Machines.{program, total, plays, cells_left}
+use Rattle.threads.specs.Machines.{program}
 use Rattle.threads.specs.Plays.{Played, cells_of}
 use Rattle.reports.specs.Reports.{front}
 use Rattle.reports.proofs.Answers.{copied_front}

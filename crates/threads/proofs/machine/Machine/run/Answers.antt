@@ -1,6 +1,5 @@
-use Rattle.std.proofs.Common.{◌≡◌, ◌≤◌, length, refl, subst, arith}
+use Rattle.std.proofs.Common.{◌≤◌, length, refl, subst, arith}
 use Rattle.tables.specs.Tables.{view}
-use Rattle.walks.specs.declared.outcome.Outcome.TheVariants.{Open, Ended}
 use Rattle.tables.specs.Slots.{slot_total}
 use Rattle.threads.specs.Turns.{rest, with_point}
 use Rattle.threads.specs.Running.{Running, begins, goes_on, ends_early, ends_late}
