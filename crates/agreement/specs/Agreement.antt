@@ -31,7 +31,7 @@ pub record Enumerates (P : List ℕ → Type 0) (rows : List (List ℕ)) : Type 
 abbrev pub NotAfter : List ℕ → List ℕ → Type 0
 NotAfter x y = Before y x → ⊥
 
--- AllByRecursion that a run is told: what is reported of it, its slot counts, and the codes in the program's cells.
+-- All that a run is told: what is reported of it, its slot counts, and the codes in the program's cells.
 pub record Told : Type 0 where
   pub report : Report
   pub counts : List ℕ

@@ -43,7 +43,7 @@ abbrev pub from_start : (out : List ℕ → Outcome) → Outcome → List (List 
 from_start out (Open b) = level out 64 [] b
 from_start out (Ended e) = []
 
--- AllByRecursion leaves.
+-- All leaves.
 unfoldable pub leaves : (List ℕ → Outcome) → List (List ℕ)
 leaves out = from_start out (out [])
 
