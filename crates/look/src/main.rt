@@ -14,6 +14,7 @@ use crate::sight::run_of;
 use crate::text::{ProblemText, RefusalText};
 use anyhow::anyhow;
 use kinds::{Kind, Truth, Words};
+use std::process::ExitCode;
 use std::{env, fs};
 use surveys::setup::machine_of;
 use threads::machine::Machine;
@@ -118,13 +119,13 @@ fn look<V: Kind>(
     }
 }
 
-fn main(rt: HostRuntime) -> anyhow::Result<()> {
-    let words: Vec<String> = env::args(&rt)?.collect(rt.alloc())?;
+fn run(rt: &HostRuntime) -> anyhow::Result<()> {
+    let words: Vec<String> = env::args(rt)?.collect(rt.alloc())?;
     let Some(request) = Request::from_words(rt.alloc(), words.as_slice())? else {
         eprint!(rt; "{USAGE}")?;
         return Err(anyhow!("usage"));
     };
-    let file = match fs::read(&rt, request.file.as_str()) {
+    let file = match fs::read(rt, request.file.as_str()) {
         Ok(file) => file,
         Err(e) => {
             let name = request.file.as_str();
@@ -133,8 +134,16 @@ fn main(rt: HostRuntime) -> anyhow::Result<()> {
         }
     };
     if file.get(2).copied() == Some(Truth::BYTE) {
-        look::<Truth>(&rt, "truth values", file.as_slice(), &request)
+        look::<Truth>(rt, "truth values", file.as_slice(), &request)
     } else {
-        look::<Words>(&rt, "words", file.as_slice(), &request)
+        look::<Words>(rt, "words", file.as_slice(), &request)
+    }
+}
+
+// What was refused is said by then, so the error is not printed once more.
+fn main(rt: HostRuntime) -> ExitCode {
+    match run(&rt) {
+        Ok(()) => ExitCode::SUCCESS,
+        Err(_) => ExitCode::FAILURE,
     }
 }
