@@ -12,7 +12,7 @@ use std::time::Instant;
 const RUNS: u32 = 5;
 
 extern "C" {
-    /// `surveys::host::survey` of the static library, whose first parameter takes no memory.
+    /// `survey` of the static library `surveys_c`, whose first parameter takes no memory.
     fn survey(file: *const u8, file_length: usize, rounds: u32, b: u32, out: *mut u8, out_length: usize) -> u32;
 }
 

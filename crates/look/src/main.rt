@@ -140,7 +140,7 @@ fn run(rt: &HostRuntime) -> anyhow::Result<()> {
     }
 }
 
-// What was refused is said by then, so the error is not printed once more.
+// What was refused is said by then, and not once more. Where memory or a write fails, only the status says so.
 fn main(rt: HostRuntime) -> ExitCode {
     match run(&rt) {
         Ok(()) => ExitCode::SUCCESS,
