@@ -119,31 +119,28 @@ fn look<V: Kind>(
     }
 }
 
-fn run(rt: &HostRuntime) -> anyhow::Result<()> {
-    let words: Vec<String> = env::args(rt)?.collect(rt.alloc())?;
+// What was refused is said on standard error, and not once more: only the status tells of it too.
+fn main(rt: HostRuntime) -> anyhow::Result<ExitCode> {
+    let words: Vec<String> = env::args(&rt)?.collect(rt.alloc())?;
     let Some(request) = Request::from_words(rt.alloc(), words.as_slice())? else {
         eprint!(rt; "{USAGE}")?;
-        return Err(anyhow!("usage"));
+        return Ok(ExitCode::FAILURE);
     };
-    let file = match fs::read(rt, request.file.as_str()) {
+    let file = match fs::read(&rt, request.file.as_str()) {
         Ok(file) => file,
         Err(e) => {
             let name = request.file.as_str();
             eprintln!(rt; "look: cannot read {name}: {e}")?;
-            return Err(anyhow!("unreadable"));
+            return Ok(ExitCode::FAILURE);
         }
     };
-    if file.get(2).copied() == Some(Truth::BYTE) {
-        look::<Truth>(rt, "truth values", file.as_slice(), &request)
+    let shown = if file.get(2).copied() == Some(Truth::BYTE) {
+        look::<Truth>(&rt, "truth values", file.as_slice(), &request)
     } else {
-        look::<Words>(rt, "words", file.as_slice(), &request)
-    }
-}
-
-// What was refused is said by then, and not once more. Where memory or a write fails, only the status says so.
-fn main(rt: HostRuntime) -> ExitCode {
-    match run(&rt) {
-        Ok(()) => ExitCode::SUCCESS,
-        Err(_) => ExitCode::FAILURE,
+        look::<Words>(&rt, "words", file.as_slice(), &request)
+    };
+    match shown {
+        Ok(()) => Ok(ExitCode::SUCCESS),
+        Err(_) => Ok(ExitCode::FAILURE),
     }
 }
