@@ -1,3 +1,2 @@
-pub mod Split
+pub mod Chunks
 pub mod Writes
-pub mod Parts

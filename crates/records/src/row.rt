@@ -1,33 +1,45 @@
 // The bytes of a record.
 ghost use Rattle.std.specs.Prelude.{◌≡◌, ◌+◌, ◌≤◌, length};
-ghost use Rattle.records.specs.Rows.{row as ten, place_byte, statement_row};
+ghost use Rattle.records.specs.Rows.{letters, marked, statement_row};
 ghost use Rattle.records.specs.Wrote.{wrote};
 
-use crate::statement::{Place, Statement};
+use crate::statement::Statement;
 
-// A record: the two bytes of its mark, op, d, a, b and c.
-pub fn row(p: u8, q: u8, op: u8, d: u8, a: u8, b: u8, c: u32) -> [u8; 10]
-    ensures { result ≡ ten p q op d a b c }
-{
-    let s = c.to_be_bytes();
-    [p, q, op, d, a, b, s[0], s[1], s[2], s[3]]
+// The two letters that a record begins with. The last three are those of a sequential program's file.
+#[derive(Clone, Copy, PartialEq, Eq)]
+pub enum Mark {
+    Pg,
+    Sc,
+    Th,
+    St,
+    Sq,
+    Se,
+    In,
 }
 
-// The byte of a place. No table that was loaded has a local cell above 7; the sum wraps so that the byte is defined for
-// every place.
-pub fn byte(p: Place) -> u8
-    ensures { result ≡ place_byte p }
-{
-    match p {
-        Place::Shared(n) => n,
-        Place::Local(n) => n.wrapping_add(16),
+impl Mark {
+    fn letters(self) -> [u8; 2]
+        ensures { result ≡ letters self }
+    {
+        match self {
+            Mark::Pg => [b'P', b'G'],
+            Mark::Sc => [b'S', b'C'],
+            Mark::Th => [b'T', b'H'],
+            Mark::St => [b'S', b'T'],
+            Mark::Sq => [b'S', b'Q'],
+            Mark::Se => [b'S', b'E'],
+            Mark::In => [b'I', b'N'],
+        }
     }
 }
 
-fn st(op: u8, d: u8, a: u8, b: u8, c: u32) -> [u8; 10]
-    ensures { result ≡ ten 83 84 op d a b c }
+// A record: its mark, op, d, a, b and c.
+pub fn row(mark: Mark, op: u8, d: u8, a: u8, b: u8, c: u32) -> [u8; 10]
+    ensures { result ≡ marked mark op d a b c }
 {
-    row(b'S', b'T', op, d, a, b, c)
+    let [p, q] = mark.letters();
+    let [s, t, u, v] = c.to_be_bytes();
+    [p, q, op, d, a, b, s, t, u, v]
 }
 
 // The ST record of a statement.
@@ -35,22 +47,22 @@ pub fn statement_row(s: Statement) -> [u8; 10]
     ensures { result ≡ statement_row s }
 {
     match s {
-        Statement::Set { d, c } => st(1, byte(d), 0, 0, c),
-        Statement::Copy { d, a } => st(2, byte(d), byte(a), 0, 0),
-        Statement::Sum { d, a, b } => st(3, byte(d), byte(a), byte(b), 0),
-        Statement::Difference { d, a, b } => st(4, byte(d), byte(a), byte(b), 0),
-        Statement::Less { d, a, b } => st(5, byte(d), byte(a), byte(b), 0),
-        Statement::Same { d, a, b } => st(6, byte(d), byte(a), byte(b), 0),
-        Statement::Jump { t } => st(7, 0, 0, 0, t.0 as u32),
-        Statement::Branch { a, t } => st(8, 0, byte(a), 0, t.0 as u32),
-        Statement::Assume { a } => st(9, 0, byte(a), 0, 0),
-        Statement::Assert { a } => st(10, 0, byte(a), 0, 0),
-        Statement::Init { m } => st(11, m.0, 0, 0, 0),
-        Statement::Destroy { m } => st(12, m.0, 0, 0, 0),
-        Statement::Lock { m } => st(13, m.0, 0, 0, 0),
-        Statement::Unlock { m } => st(14, m.0, 0, 0, 0),
-        Statement::Create { j } => st(15, j.0, 0, 0, 0),
-        Statement::Join { j } => st(16, j.0, 0, 0, 0),
+        Statement::Set { d, c } => row(Mark::St, 1, u8::from(d), 0, 0, c),
+        Statement::Copy { d, a } => row(Mark::St, 2, u8::from(d), u8::from(a), 0, 0),
+        Statement::Sum { d, a, b } => row(Mark::St, 3, u8::from(d), u8::from(a), u8::from(b), 0),
+        Statement::Difference { d, a, b } => row(Mark::St, 4, u8::from(d), u8::from(a), u8::from(b), 0),
+        Statement::Less { d, a, b } => row(Mark::St, 5, u8::from(d), u8::from(a), u8::from(b), 0),
+        Statement::Same { d, a, b } => row(Mark::St, 6, u8::from(d), u8::from(a), u8::from(b), 0),
+        Statement::Jump { t } => row(Mark::St, 7, 0, 0, 0, u32::from(t.0)),
+        Statement::Branch { a, t } => row(Mark::St, 8, 0, u8::from(a), 0, u32::from(t.0)),
+        Statement::Assume { a } => row(Mark::St, 9, 0, u8::from(a), 0, 0),
+        Statement::Assert { a } => row(Mark::St, 10, 0, u8::from(a), 0, 0),
+        Statement::Init { m } => row(Mark::St, 11, m.0, 0, 0, 0),
+        Statement::Destroy { m } => row(Mark::St, 12, m.0, 0, 0, 0),
+        Statement::Lock { m } => row(Mark::St, 13, m.0, 0, 0, 0),
+        Statement::Unlock { m } => row(Mark::St, 14, m.0, 0, 0, 0),
+        Statement::Create { j } => row(Mark::St, 15, j.0, 0, 0, 0),
+        Statement::Join { j } => row(Mark::St, 16, j.0, 0, 0, 0),
     }
 }
 

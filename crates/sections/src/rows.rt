@@ -63,7 +63,7 @@ pub fn program_row<V: Kind>(table: &Table, rounds: u8) -> [u8; 10]
     row(
         b'S',
         b'Q',
-        V::kind_byte(),
+        V::BYTE,
         table.cells().len() as u8,
         table.mutexes(),
         table.threads(),

@@ -36,7 +36,7 @@ impl SeqState {
         SeqState {
             words,
             cells: initial_cells::<V>(codes),
-            locals: [[V::fresh_code(); 8]; 8],
+            locals: [[V::FRESH; 8]; 8],
         }
     }
 
@@ -60,9 +60,9 @@ impl SeqState {
         ensures { result ≡ slice_index_or (locals_of self.now i.0) n V.meaning.fresh }
     {
         if i.0 < 8 {
-            item_or(&self.locals[i.0 as usize], n, V::fresh_code())
+            item_or(&self.locals[i.0 as usize], n, V::FRESH)
         } else {
-            V::fresh_code()
+            V::FRESH
         }
     }
 
@@ -79,7 +79,7 @@ impl SeqState {
         ensures { result ≡ value_of V.meaning self.now i.0 p }
     {
         match p {
-            Place::Shared(n) => item_or(&self.cells, n, V::fresh_code()),
+            Place::Shared(n) => item_or(&self.cells, n, V::FRESH),
             Place::Local(n) => self.local::<V>(i, n),
         }
     }

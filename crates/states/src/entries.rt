@@ -35,7 +35,7 @@ impl ThreadTable {
     {
         let asleep = ThreadEntry {
             label: Label(0),
-            locals: [V::fresh_code(); 8],
+            locals: [V::FRESH; 8],
             created: false,
         };
         let mut table = ThreadTable {
@@ -64,7 +64,7 @@ impl ThreadTable {
         requires { i.0 < 8 }
         ensures { result ≡ local_in V.meaning (entry_of self.now.entries i.0) n }
     {
-        item_or(&self.entries[i.0 as usize].locals, n, V::fresh_code())
+        item_or(&self.entries[i.0 as usize].locals, n, V::FRESH)
     }
 
     pub fn set_local(&mut self, i: Thread, n: u8, c: u32)

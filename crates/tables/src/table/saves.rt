@@ -120,7 +120,7 @@ impl Table {
         row(
             b'P',
             b'G',
-            V::kind_byte(),
+            V::BYTE,
             self.cells.len() as u8,
             self.mutexes,
             self.texts.len() as u8,
