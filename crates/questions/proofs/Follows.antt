@@ -1,5 +1,5 @@
 -- The records of a file from number i on.
-use Rattle.std.proofs.Common.{◌≡◌, ℕ, ◌+◌, ◌/◌, ◌%◌, ◌<◌, ◌≤◌, true, cond, List, [], ◌∷◌, length, drop, ap, arith}
+use Rattle.std.proofs.Common.{◌≡◌, ℕ, ◌+◌, ◌/◌, ◌%◌, ◌<◌, ◌≤◌, true, cond, List, [], ◌∷◌, length, get_or, drop, ap, arith}
 use Rattle.kinds.specs.Meaning.{Meaning}
 use Rattle.std.proofs.lemmas.List.FromFn.{length-map-range_with_len, get_or-map-range_with_len}
 use Rattle.std.proofs.lemmas.List.{drop_more, drop_all}
@@ -14,11 +14,14 @@ use Rattle.records.specs.declared.refusal.Refusal.TheVariants as no
 pub length_lines : (f : List ℕ) → length (lines f) ≡ length f / 10
 length_lines f = length-map-range_with_len (line f) 0 (length f / 10)
 
+pub lines_at : (f : List ℕ) (i : ℕ) → i < length f / 10 → get_or (lines f) i [] ≡ line f i
+lines_at f i h = get_or-map-range_with_len (line f) 0 (length f / 10) i i [] h (omega arith)
+
 pub lines_more : (f : List ℕ) (i : ℕ) → i < length f / 10 → drop i (lines f) ≡ line f i ∷ drop (i + 1) (lines f)
 lines_more f i h =
     let e = length_lines f in
     let p = drop_more (lines f) i [] (omega arith) in
-    let q = get_or-map-range_with_len (line f) 0 (length f / 10) i i [] h (omega arith) in
+    let q = lines_at f i h in
     cc
 
 pub lines_all : (f : List ℕ) (i : ℕ) → length f / 10 ≤ i → drop i (lines f) ≡ []
