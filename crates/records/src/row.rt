@@ -31,15 +31,15 @@ impl Mark {
             Mark::In => [b'I', b'N'],
         }
     }
-}
 
-// A record: its mark, op, d, a, b and c.
-pub fn row(mark: Mark, op: u8, d: u8, a: u8, b: u8, c: u32) -> [u8; 10]
-    ensures { result ≡ marked mark op d a b c }
-{
-    let [p, q] = mark.letters();
-    let [s, t, u, v] = c.to_be_bytes();
-    [p, q, op, d, a, b, s, t, u, v]
+    // A record with this mark: op, d, a, b and c.
+    pub fn row(self, op: u8, d: u8, a: u8, b: u8, c: u32) -> [u8; 10]
+        ensures { result ≡ marked self op d a b c }
+    {
+        let [p, q] = self.letters();
+        let [s, t, u, v] = c.to_be_bytes();
+        [p, q, op, d, a, b, s, t, u, v]
+    }
 }
 
 // The ST record of a statement.
@@ -47,29 +47,28 @@ pub fn statement_row(s: Statement) -> [u8; 10]
     ensures { result ≡ statement_row s }
 {
     match s {
-        Statement::Set { d, c } => row(Mark::St, 1, u8::from(d), 0, 0, c),
-        Statement::Copy { d, a } => row(Mark::St, 2, u8::from(d), u8::from(a), 0, 0),
-        Statement::Sum { d, a, b } => row(Mark::St, 3, u8::from(d), u8::from(a), u8::from(b), 0),
-        Statement::Difference { d, a, b } => row(
-            Mark::St,
+        Statement::Set { d, c } => Mark::St.row(1, u8::from(d), 0, 0, c),
+        Statement::Copy { d, a } => Mark::St.row(2, u8::from(d), u8::from(a), 0, 0),
+        Statement::Sum { d, a, b } => Mark::St.row(3, u8::from(d), u8::from(a), u8::from(b), 0),
+        Statement::Difference { d, a, b } => Mark::St.row(
             4,
             u8::from(d),
             u8::from(a),
             u8::from(b),
             0,
         ),
-        Statement::Less { d, a, b } => row(Mark::St, 5, u8::from(d), u8::from(a), u8::from(b), 0),
-        Statement::Same { d, a, b } => row(Mark::St, 6, u8::from(d), u8::from(a), u8::from(b), 0),
-        Statement::Jump { t } => row(Mark::St, 7, 0, 0, 0, u32::from(t.0)),
-        Statement::Branch { a, t } => row(Mark::St, 8, 0, u8::from(a), 0, u32::from(t.0)),
-        Statement::Assume { a } => row(Mark::St, 9, 0, u8::from(a), 0, 0),
-        Statement::Assert { a } => row(Mark::St, 10, 0, u8::from(a), 0, 0),
-        Statement::Init { m } => row(Mark::St, 11, m.0, 0, 0, 0),
-        Statement::Destroy { m } => row(Mark::St, 12, m.0, 0, 0, 0),
-        Statement::Lock { m } => row(Mark::St, 13, m.0, 0, 0, 0),
-        Statement::Unlock { m } => row(Mark::St, 14, m.0, 0, 0, 0),
-        Statement::Create { j } => row(Mark::St, 15, j.0, 0, 0, 0),
-        Statement::Join { j } => row(Mark::St, 16, j.0, 0, 0, 0),
+        Statement::Less { d, a, b } => Mark::St.row(5, u8::from(d), u8::from(a), u8::from(b), 0),
+        Statement::Same { d, a, b } => Mark::St.row(6, u8::from(d), u8::from(a), u8::from(b), 0),
+        Statement::Jump { t } => Mark::St.row(7, 0, 0, 0, u32::from(t.0)),
+        Statement::Branch { a, t } => Mark::St.row(8, 0, u8::from(a), 0, u32::from(t.0)),
+        Statement::Assume { a } => Mark::St.row(9, 0, u8::from(a), 0, 0),
+        Statement::Assert { a } => Mark::St.row(10, 0, u8::from(a), 0, 0),
+        Statement::Init { m } => Mark::St.row(11, m.0, 0, 0, 0),
+        Statement::Destroy { m } => Mark::St.row(12, m.0, 0, 0, 0),
+        Statement::Lock { m } => Mark::St.row(13, m.0, 0, 0, 0),
+        Statement::Unlock { m } => Mark::St.row(14, m.0, 0, 0, 0),
+        Statement::Create { j } => Mark::St.row(15, j.0, 0, 0, 0),
+        Statement::Join { j } => Mark::St.row(16, j.0, 0, 0, 0),
     }
 }
 

@@ -11,7 +11,7 @@ use crate::table::Table;
 use crate::text::ThreadText;
 use kinds::Kind;
 use records::refusal::Refusal;
-use records::row::{Mark, put, row, statement_row};
+use records::row::{Mark, put, statement_row};
 use records::statement::Statement;
 
 // Of the statements that are left, those of a text, and those behind them.
@@ -41,7 +41,7 @@ fn save_text(out: &mut [u8], start: usize, i: u8, t: ThreadText, own: &[Statemen
     ensures after { out.new ≡ wrote out.old start (own_thread_bytes i t own.now) }
     ensures next { result ≡ start + length (own_thread_bytes i t own.now) }
 {
-    let at = put(out, start, row(Mark::Th, i, t.locals, t.size, 0, 0));
+    let at = put(out, start, Mark::Th.row(i, t.locals, t.size, 0, 0));
     save_statements(out, at, own)
 }
 
@@ -54,7 +54,7 @@ impl Table {
     {
         let mut at = start;
         for (i, code) in self.cells().iter().enumerate() {
-            at = put(out, at, row(Mark::Sc, i as u8, 0, 0, 0, *code));
+            at = put(out, at, Mark::Sc.row(i as u8, 0, 0, 0, *code));
         }
         at
     }
@@ -100,8 +100,7 @@ impl Table {
     fn header<V: Kind>(&self) -> [u8; 10]
         ensures { result ≡ header_row V.meaning.byte (view self.now) }
     {
-        row(
-            Mark::Pg,
+        Mark::Pg.row(
             V::BYTE,
             self.cells.len() as u8,
             self.mutexes,
