@@ -1,13 +1,13 @@
 // What a thread does in its slot.
 ghost use Rattle.std.specs.Prelude.{◌≡◌, ◌<◌};
-ghost use Rattle.tables.specs.Tables.{view};
+ghost use Rattle.threads.specs.Machines.{program};
 ghost use Rattle.threads.specs.Slots.{run, ran, stops};
 
-use crate::step::{Progress, step};
+use crate::machine::Machine;
+use crate::step::Progress;
 use kinds::Kind;
 use records::statement::Thread;
 use states::state::State;
-use tables::table::Table;
 
 // How many statements a thread carries out in a slot. Never a place in its text: that is a `Label`.
 #[derive(Clone, Copy)]
@@ -45,18 +45,19 @@ fn stopped(progress: Progress, d: u8) -> Option<Slot>
     }
 }
 
-// Thread `i` carries out `n` statements, if it can.
-pub fn run_slot<V: Kind>(state: &mut State, table: &Table, i: Thread, n: SlotCount) -> Slot
-    requires { i.0 < 8 }
-    ensures { ran result state.new ≡ run V.meaning (view table.now) i n.0 0 state.old }
-{
-    for d in 0..n.0 {
-        if let Some(slot) = stopped(step::<V>(state, table, i), d) {
-            return slot;
+impl<V: Kind> Machine<V> {
+    // Thread `i` carries out `n` statements, if it can.
+    pub fn run_slot(&self, state: &mut State, i: Thread, n: SlotCount) -> Slot
+        ensures { ran result state.new ≡ run V.meaning (program self.now) i n.0 0 state.old }
+    {
+        for d in 0..n.0 {
+            if let Some(slot) = stopped(self.step(state, i), d) {
+                return slot;
+            }
         }
-    }
-    Slot {
-        end: SlotEnd::Done,
-        count: n,
+        Slot {
+            end: SlotEnd::Done,
+            count: n,
+        }
     }
 }

@@ -12,7 +12,7 @@ returns-then-created g c =
     let n = slot_total p c.args.self.now.rounds in
     let q = c.loop-q.q in
     let l : q < n = omega (arith, c.slots-slots.ensures.value) in
-    sym (c.loop-q.invariant ∙ seek_found p s n q l (sym (ap (created s) c.thread_at.ensures.value) ∙ sym c.created.ensures ∙ c.if-created.true))
+    sym (c.loop-q.invariant ∙ seek_found p s n q l (sym (ap (created s) c.thread_at.ensures) ∙ sym c.created.ensures ∙ c.if-created.true))
 
 pub loop-q-preserved : goal.loop-q-preserved
 loop-q-preserved g c =
@@ -21,7 +21,7 @@ loop-q-preserved g c =
     let n = slot_total p c.args.self.now.rounds in
     let q = c.loop-q.q in
     let l : q < n = omega (arith, c.slots-slots.ensures.value) in
-    c.loop-q.invariant ∙ seek_past p s n q l (sym (ap (created s) c.thread_at.ensures.value) ∙ sym c.created.ensures ∙ c.if-created.false)
+    c.loop-q.invariant ∙ seek_past p s n q l (sym (ap (created s) c.thread_at.ensures) ∙ sym c.created.ensures ∙ c.if-created.false)
 
 pub returns : goal.returns
 returns g c =

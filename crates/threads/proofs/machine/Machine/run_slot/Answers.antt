@@ -1,6 +1,6 @@
 use Rattle.std.proofs.Common.{sym, ◌∙◌, arith}
 use Rattle.threads.proofs.Runs.{run_after, run_none}
-use Rattle.threads.proofs.slot.run_slot.Goals as goal
+use Rattle.threads.proofs.machine.Machine.run_slot.Goals as goal
 
 pub returns-in-Some : goal.returns-in-Some
 returns-in-Some g c =
