@@ -18,6 +18,7 @@ use Rattle.walks.specs.declared.outcome.Outcome.{Outcome}
 use Rattle.walks.specs.declared.outcome.Outcome.TheVariants.{Open, Ended}
 use Rattle.walks.specs.Outcomes.{IsOpen}
 use Rattle.walks.specs.Runs.{Lawful, Landed}
+use Rattle.reports.specs.Players.{Turned}
 use Rattle.threads.specs.declared.machine.Machine.{Machine}
 use Rattle.threads.specs.declared.point.Point.{Point}
 use Rattle.threads.specs.declared.slot.Slot.{Slot}
@@ -29,7 +30,7 @@ use Rattle.threads.specs.Plays.{Played, serve, bound, rounds, play, thread}
 use Rattle.threads.specs.Points.{Follows}
 use Rattle.threads.specs.Slots.{Ran, ran, run, stops, unless_stopped, slot_of}
 use Rattle.threads.specs.Steps.{progress, after}
-use Rattle.threads.specs.Turns.{width, first, standing, Turned, turn, Stands, rest}
+use Rattle.threads.specs.Turns.{width, first, standing, turn, Stands, rest}
 use Rattle.threads.specs.Laws.{lawful_by, out_ask}
 use Rattle.threads.specs.Playing.{first_stands, first_rest}
 use Rattle.threads.specs.Running.{Waits, turn_waits}
@@ -113,14 +114,14 @@ module _ {V : Type 0} {G : Ghosts V} (k : Meaning) (m : Machine V G) where
   stands_of at l f = record { within = omega (arith, f.within); exists = λ _. f.exists }
 
   -- one number more
-  lands : (t : Turned) (l : List ℕ) (g : ℕ) (o : Outcome) → Waits k p n t.point o → ((ns : List ℕ) → (plays k m (l ++ g ∷ ns)).outcome ≡ (followed k p n t (λ at. rest k p n at ns) o).outcome) → Landed (λ ns. (plays k m ns).outcome) (Follows k m) (l ++ g ∷ []) o t.point
+  lands : (t : Turned Point) (l : List ℕ) (g : ℕ) (o : Outcome) → Waits k p n t.point o → ((ns : List ℕ) → (plays k m (l ++ g ∷ ns)).outcome ≡ (followed k p n t (λ at. rest k p n at ns) o).outcome) → Landed (λ ns. (plays k m ns).outcome) (Follows k m) (l ++ g ∷ []) o t.point
   lands t l g (Open b) w on = (
     on [] ∙ ap (λ (r : Played). r.outcome) (rest_there k p n t.point [] w.0 (w.1.exists w.0)) ∙ ap (λ x. Open x) (sym w.2),
     λ _. record { within = w.0; exists = w.1.exists w.0; on = λ ns. ap (λ l. (plays k m l).outcome) (append_assoc l (g ∷ []) ns) ∙ on ns },
   )
   lands t l g (Ended e) w on = (on [], λ x. absurd x)
 
-  pub step_lands : (at : Point) (g : ℕ) (t : Turned) (l : List ℕ) → t ≡ turn k p n at g → Follows k m at l → Landed (λ ns. (plays k m ns).outcome) (Follows k m) (l ++ g ∷ []) t.turn.outcome t.point
+  pub step_lands : (at : Point) (g : ℕ) (t : Turned Point) (l : List ℕ) → t ≡ turn k p n at g → Follows k m at l → Landed (λ ns. (plays k m ns).outcome) (Follows k m) (l ++ g ∷ []) t.outcome t.point
   step_lands at g t l e f =
-      lands t l g t.turn.outcome (subst (λ (u : Turned). Waits k p n u.point u.turn.outcome) (sym e) (turn_waits k p n at g f.within))
-      (λ ns. f.on (g ∷ ns) ∙ ap (λ (r : Played). r.outcome) (rest_turn k p n at g ns (stands_of at l f) f.within) ∙ ap (λ (u : Turned). (followed k p n u (λ at'. rest k p n at' ns) u.turn.outcome).outcome) (sym e))
+      lands t l g t.outcome (subst (λ (u : Turned Point). Waits k p n u.point u.outcome) (sym e) (turn_waits k p n at g f.within))
+      (λ ns. f.on (g ∷ ns) ∙ ap (λ (r : Played). r.outcome) (rest_turn k p n at g ns (stands_of at l f) f.within) ∙ ap (λ (u : Turned Point). (followed k p n u (λ at'. rest k p n at' ns) u.outcome).outcome) (sym e))

@@ -1,24 +1,19 @@
 // One number at a point: the slot that is due, and the way to the next one that exists.
 ghost use Rattle.std.specs.Prelude.{◌≡◌, ◌+◌, ◌-◌, ◌*◌, ◌%◌, ◌<◌, ◌≤◌};
+ghost use Rattle.reports.specs.Players.{with_point};
 ghost use Rattle.threads.specs.Machines.{program, total};
 ghost use Rattle.threads.specs.Plays.{bound as most, serve as served_so};
 ghost use Rattle.threads.specs.Slots.{ran};
-ghost use Rattle.threads.specs.Turns.{width, seek as first_existing, standing as stands_as, turn as turned_by, with_point, first as at_first};
+ghost use Rattle.threads.specs.Turns.{width, seek as first_existing, standing as stands_as, turn as turned_by, first as at_first};
 
 use crate::machine::Machine;
 use crate::point::Point;
 use crate::slot::{Slot, SlotCount, SlotEnd};
 use kinds::Kind;
 use records::statement::Thread;
+use reports::report::Turn;
 use states::state::State;
 use walks::outcome::{Ending, Outcome};
-
-// What a number came to: the statements carried out in its slot, and how the run stands then.
-#[derive(Clone, Copy)]
-pub struct Turn {
-    pub count: SlotCount,
-    pub outcome: Outcome,
-}
 
 impl<V: Kind> Machine<V> {
     // How many slots a run has.
@@ -101,13 +96,13 @@ impl<V: Kind> Machine<V> {
     {
         if at.slot >= self.slots() {
             return Turn {
-                count: SlotCount(0),
+                count: 0,
                 outcome: Outcome::Ended(Ending::Full),
             };
         }
         let i = self.thread_at(at.slot);
         let slot = self.serve(&mut at.state, i, SlotCount(number));
-        let count = slot.count;
+        let count = slot.count.0;
         match slot.end {
             SlotEnd::Failed => Turn {
                 count,
