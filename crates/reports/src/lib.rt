@@ -3,3 +3,4 @@
 
 pub mod player;
 pub mod report;
+pub mod stop;

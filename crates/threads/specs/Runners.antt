@@ -1,5 +1,5 @@
 -- The thread machine is a runner: its laws, its first point, and one step.
-use Rattle.std.specs.Prelude.{◌≡◌, ℕ, zero, suc, ◌+◌, ◌*◌, ◌%◌, ◌<◌, ◌≤◌, cond, List, [], ◌∷◌, ◌++◌, drop, Some, None, Option, nat_lt, slice_index_or, refl}
+use Rattle.std.specs.Prelude.{◌≡◌, ℕ, zero, suc, ◌+◌, ◌*◌, ◌%◌, ◌<◌, ◌≤◌, cond, List, [], ◌∷◌, ◌++◌, drop, Some, None, Option, nat_lt, slice_index_or, refl, Err}
 use Rattle.std.proofs.Common.{sym, ap, subst, ◌∙◌, append_assoc, arith}
 use Rattle.std.proofs.lemmas.Nat.{mul-le}
 use Rattle.std.proofs.lemmas.List.FromFn.{length-map-range_with_len}
@@ -22,7 +22,7 @@ use Rattle.reports.specs.Players.{Turned}
 use Rattle.threads.specs.declared.machine.Machine.{Machine}
 use Rattle.threads.specs.declared.point.Point.{Point}
 use Rattle.threads.specs.declared.slot.Slot.{Slot}
-use Rattle.threads.specs.declared.slot.SlotEnd.TheVariants as end
+use Rattle.reports.specs.declared.stop.Stop.TheVariants as end
 use Rattle.threads.specs.Effects.{next}
 use Rattle.threads.specs.Machines.{program, total, plays}
 use Rattle.tables.specs.Slots.{slots, program_slots, slot_total}
@@ -37,7 +37,7 @@ use Rattle.threads.specs.Running.{Waits, turn_waits}
 use Rattle.threads.specs.Turning.{slots_more, rest_there, rest_full, rest_turn, followed}
 
 -- a failing slot fails with every greater number
-run_up : (k : Meaning) (p : Program) (i : Thread) (n m d : ℕ) (s : State) → n ≤ m → (run k p i n d s).slot.end ≡ end.Failed → (run k p i m d s).slot.end ≡ end.Failed
+run_up : (k : Meaning) (p : Program) (i : Thread) (n m d : ℕ) (s : State) → n ≤ m → (run k p i n d s).slot.end ≡ (Err end.Failed) → (run k p i m d s).slot.end ≡ (Err end.Failed)
 unfolding run
 run_up k p i zero m d s le f = absurd (let z : ◌≡◌ {A = ℕ} 0 1 = cc in omega arith)
 run_up k p i (suc n) zero d s le f = absurd (let z : ⊥ = omega arith in z)
@@ -45,7 +45,7 @@ run_up k p i (suc n) (suc m) d s le f =
     let s' = after i (next k p i s) s in
     same s' (run k p i n (d + 1) s') (run k p i m (d + 1) s') (stops (progress (next k p i s)) d) (run_up k p i n m (d + 1) s' (omega arith)) f
   where
-    same : (s : State) (r q : Ran) (x : Option Slot) → (r.slot.end ≡ end.Failed → q.slot.end ≡ end.Failed) → (unless_stopped s r x).slot.end ≡ end.Failed → (unless_stopped s q x).slot.end ≡ end.Failed
+    same : (s : State) (r q : Ran) (x : Option Slot) → (r.slot.end ≡ (Err end.Failed) → q.slot.end ≡ (Err end.Failed)) → (unless_stopped s r x).slot.end ≡ (Err end.Failed) → (unless_stopped s q x).slot.end ≡ (Err end.Failed)
     same s r q None more f = more f
     same s r q (Some x) more f = f
 
@@ -58,15 +58,15 @@ module _ (k : Meaning) (p : Program) (w : WellFormed k p) where
   small : (s : State) (i : ℕ) → bound p s i ≤ 255
   small s i = omega (arith, sizes k _ _ _ 0 p.texts p.statements i w.threads)
 
-  over : (i : ℕ) (s : State) (n : ℕ) → bound p s i < n → (serve k p i s n).slot.end ≡ end.Cut
+  over : (i : ℕ) (s : State) (n : ℕ) → bound p s i < n → (serve k p i s n).slot.end ≡ (Err end.Cut)
   over i s n h = rw (lt-ltb (bound p s i) n h) refl
 
-  up : (i : ℕ) (s : State) (n m : ℕ) → n ≤ m → m ≤ bound p s i → (serve k p i s n).slot.end ≡ end.Failed → (serve k p i s m).slot.end ≡ end.Failed
+  up : (i : ℕ) (s : State) (n m : ℕ) → n ≤ m → m ≤ bound p s i → (serve k p i s n).slot.end ≡ (Err end.Failed) → (serve k p i s m).slot.end ≡ (Err end.Failed)
   up i s n m le lb f =
       let en = le-ltb (bound p s i) n (omega arith) in
       let em = le-ltb (bound p s i) m lb in
-      let a = ap (λ b. (cond b (ran (slot_of end.Cut 0) s) (run k p (thread i) n 0 s)).slot.end) en in
-      ap (λ b. (cond b (ran (slot_of end.Cut 0) s) (run k p (thread i) m 0 s)).slot.end) em ∙ run_up k p (thread i) n m 0 s le (sym a ∙ f)
+      let a = ap (λ b. (cond b (ran (slot_of (Err end.Cut) 0) s) (run k p (thread i) n 0 s)).slot.end) en in
+      ap (λ b. (cond b (ran (slot_of (Err end.Cut) 0) s) (run k p (thread i) m 0 s)).slot.end) em ∙ run_up k p (thread i) n m 0 s le (sym a ∙ f)
 
   opens : (n : ℕ) → 0 < n → IsOpen (rounds k p (program_slots p n) (beginning k p) []).outcome
   opens n h =

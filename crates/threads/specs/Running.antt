@@ -1,5 +1,5 @@
 -- A run from a point is the rest of the run.
-use Rattle.std.specs.Prelude.{◌≡◌, ℕ, ◌+◌, ◌%◌, ◌<◌, List, [], ◌∷◌, nat_lt, refl}
+use Rattle.std.specs.Prelude.{◌≡◌, ℕ, ◌+◌, ◌%◌, ◌<◌, List, [], ◌∷◌, nat_lt, refl, Ok, Err}
 use Rattle.std.proofs.Common.{sym, ap, subst, ◌∙◌, arith}
 use Rattle.std.proofs.lemmas.Bool.{cond_both, ltb-true, ltb-false}
 use Rattle.kinds.specs.Meaning.{Meaning}
@@ -9,8 +9,8 @@ use Rattle.walks.specs.declared.outcome.Ending.TheVariants.{Full}
 use Rattle.walks.specs.declared.outcome.Outcome.{Outcome}
 use Rattle.walks.specs.declared.outcome.Outcome.TheVariants.{Open, Ended}
 use Rattle.threads.specs.declared.point.Point.{Point}
-use Rattle.threads.specs.declared.slot.SlotEnd.{SlotEnd}
-use Rattle.threads.specs.declared.slot.SlotEnd.TheVariants as end
+use Rattle.reports.specs.Stops.{End}
+use Rattle.reports.specs.declared.stop.Stop.TheVariants as end
 use Rattle.threads.specs.Plays.{Played, played, prefixed, bound, serve}
 use Rattle.threads.specs.Slots.{Ran}
 use Rattle.threads.specs.Turns.{width, standing, turned_so, turn, Stands, rest, landed}
@@ -36,10 +36,10 @@ module _ (k : Meaning) (p : Program) (n : ℕ) where
       cond_both (nat_lt at.slot n) (Open (bound p at.state (at.slot % width p))) (Ended Full) (λ o. rest k p n at ns ≡ rest_of at ns o) (λ _. refl)
       (λ e. rest_full k p n at ns (ltb-false at.slot n e))
 
-  turned_waits : (q : ℕ) (r : Ran) (e : SlotEnd) → q < n → Waits (turned_so p n q r e).point (turned_so p n q r e).outcome
-  turned_waits q r end.Done h = standing_waits (landed p n (q + 1) r.state) (landed_stands k p n (q + 1) r.state (omega arith))
-  turned_waits q r end.Failed h = tt
-  turned_waits q r end.Cut h = tt
+  turned_waits : (q : ℕ) (r : Ran) (e : End) → q < n → Waits (turned_so p n q r e).point (turned_so p n q r e).outcome
+  turned_waits q r (Ok tt) h = standing_waits (landed p n (q + 1) r.state) (landed_stands k p n (q + 1) r.state (omega arith))
+  turned_waits q r (Err end.Failed) h = tt
+  turned_waits q r (Err end.Cut) h = tt
 
   pub turn_waits : (at : Point) (g : ℕ) → at.slot < n → Waits (turn k p n at g).point (turn k p n at g).outcome
   turn_waits at g h =

@@ -1,5 +1,5 @@
 -- A run goes on from a point by one number.
-use Rattle.std.specs.Prelude.{◌≡◌, ℕ, zero, suc, ◌+◌, ◌-◌, ◌%◌, ◌<◌, ◌≤◌, true, false, cond, List, [], ◌∷◌, drop, nat_lt, refl}
+use Rattle.std.specs.Prelude.{◌≡◌, ℕ, zero, suc, ◌+◌, ◌-◌, ◌%◌, ◌<◌, ◌≤◌, true, false, cond, List, [], ◌∷◌, drop, nat_lt, refl, Ok, Err}
 use Rattle.std.proofs.Common.{sym, ◌∙◌, inl, inr, arith}
 use Rattle.std.proofs.Math.Path.{ap}
 use Rattle.std.proofs.lemmas.List.FromFn.{length-map-range_with_len, get_or-map-range_with_len}
@@ -12,8 +12,8 @@ use Rattle.walks.specs.declared.outcome.Outcome.{Outcome}
 use Rattle.walks.specs.declared.outcome.Outcome.TheVariants.{Open, Ended}
 use Rattle.reports.specs.Players.{Turned}
 use Rattle.threads.specs.declared.point.Point.{Point}
-use Rattle.threads.specs.declared.slot.SlotEnd.{SlotEnd}
-use Rattle.threads.specs.declared.slot.SlotEnd.TheVariants as end
+use Rattle.reports.specs.Stops.{End}
+use Rattle.reports.specs.declared.stop.Stop.TheVariants as end
 use Rattle.states.specs.declared.state.State.{State}
 use Rattle.tables.specs.Slots.{slots, program_slots}
 use Rattle.threads.specs.Plays.{Played, played, prefixed, bound, serve, closed, served, rounds_by, rounds}
@@ -92,11 +92,11 @@ module _ (k : Meaning) (p : Program) (n : ℕ) where
       (λ _. refl)
       (λ l. ap (prefixed t.count) (rest_full t.point ns (ltb-false t.point.slot n l))))
 
-  closing : (q : ℕ) (ns : List ℕ) (r : Ran) (e : SlotEnd) → q < n → closed r (λ s. rounds k p (drop (q + 1) (program_slots p n)) s ns) e ≡ followed (turned_so p n q r e) (λ at. rest k p n at ns) (turned_so p n q r e).outcome
-  closing q ns r end.Done h =
-      ap (prefixed r.slot.count.0) (rest_landed (q + 1) r.state ns (omega arith)) ∙ onward (turned_so p n q r end.Done) ns refl
-  closing q ns r end.Failed h = refl
-  closing q ns r end.Cut h = refl
+  closing : (q : ℕ) (ns : List ℕ) (r : Ran) (e : End) → q < n → closed r (λ s. rounds k p (drop (q + 1) (program_slots p n)) s ns) e ≡ followed (turned_so p n q r e) (λ at. rest k p n at ns) (turned_so p n q r e).outcome
+  closing q ns r (Ok tt) h =
+      ap (prefixed r.slot.count.0) (rest_landed (q + 1) r.state ns (omega arith)) ∙ onward (turned_so p n q r (Ok tt)) ns refl
+  closing q ns r (Err end.Failed) h = refl
+  closing q ns r (Err end.Cut) h = refl
 
   pub turn_there : (at : Point) (g : ℕ) → at.slot < n → turn k p n at g ≡ turned_so p n at.slot (serve k p (at.slot % width p) at.state g) (serve k p (at.slot % width p) at.state g).slot.end
   turn_there at g h = rw (lt-ltb at.slot n h) refl

@@ -1,14 +1,13 @@
 -- One number at a point between two slots.
-use Rattle.std.specs.Prelude.{◌≡◌, ℕ, zero, suc, ◌+◌, ◌-◌, ◌%◌, ◌<◌, ◌≤◌, true, cond, List, length, drop, nat_lt}
+use Rattle.std.specs.Prelude.{◌≡◌, ℕ, zero, suc, ◌+◌, ◌-◌, ◌%◌, ◌<◌, ◌≤◌, true, cond, List, length, drop, nat_lt, Ok, Err}
 use Rattle.kinds.specs.Meaning.{Meaning}
 use Rattle.tables.specs.Program.{Program}
-use Rattle.walks.specs.declared.outcome.Ending.TheVariants.{Failed, Cut, Full}
+use Rattle.walks.specs.declared.outcome.Ending.TheVariants.{Full}
 use Rattle.walks.specs.declared.outcome.Outcome.{Outcome}
 use Rattle.walks.specs.declared.outcome.Outcome.TheVariants.{Open, Ended}
 use Rattle.reports.specs.Players.{Turned}
 use Rattle.threads.specs.declared.point.Point.{Point}
-use Rattle.threads.specs.declared.slot.SlotEnd.{SlotEnd}
-use Rattle.threads.specs.declared.slot.SlotEnd.TheVariants as end
+use Rattle.reports.specs.Stops.{End, ending}
 use Rattle.states.specs.declared.state.State.{State}
 use Rattle.tables.specs.Slots.{program_slots}
 use Rattle.threads.specs.Plays.{Played, bound, serve, rounds}
@@ -39,12 +38,11 @@ abbrev pub turned : ℕ → Outcome → Point → Turned Point
 turned c o at = record { count = c; outcome = o; point = at }
 
 -- behind the slot q
-abbrev pub turned_so : Program → ℕ → ℕ → Ran → SlotEnd → Turned Point
-turned_so p n q r end.Done =
+abbrev pub turned_so : Program → ℕ → ℕ → Ran → End → Turned Point
+turned_so p n q r (Ok _) =
     let at = landed p n (q + 1) r.state in
     turned r.slot.count.0 (standing p n at) at
-turned_so p n q r end.Failed = turned r.slot.count.0 (Ended Failed) (point q r.state)
-turned_so p n q r end.Cut = turned r.slot.count.0 (Ended Cut) (point q r.state)
+turned_so p n q r (Err e) = turned r.slot.count.0 (Ended (ending e)) (point q r.state)
 
 -- one number at a point, n slots being all; where none is left, the run is full and nothing happens
 abbrev pub turn : Meaning → Program → ℕ → Point → ℕ → Turned Point

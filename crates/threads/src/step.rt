@@ -9,27 +9,20 @@ use crate::effect::Effect;
 use crate::machine::Machine;
 use kinds::Kind;
 use records::statement::{Label, Thread};
+use reports::stop::Stop;
 use states::state::State;
 
-// How a statement came out.
-#[derive(Clone, Copy)]
-pub enum Progress {
-    CarriedOut,
-    Failed,
-    Blocked,
-}
-
 impl Effect {
-    // Thread `i` does what its statement comes to.
-    fn apply(self, state: &mut State, i: Thread) -> Progress
+    // Thread `i` does what its statement comes to. One that fails or blocks stops its slot.
+    fn apply(self, state: &mut State, i: Thread) -> Result<(), Stop>
         requires { label state.old i.0 < 255 }
         ensures progress { result ≡ came_out self }
         ensures after { state.new ≡ left_by i self state.old }
     {
         let next = Label(state.threads.label(i).0 + 1);
         match self {
-            Effect::Fail => return Progress::Failed,
-            Effect::Block => return Progress::Blocked,
+            Effect::Fail => return Err(Stop::Failed),
+            Effect::Block => return Err(Stop::Cut),
             Effect::Pass => state.threads.go_to(i, next),
             Effect::GoTo(t) => state.threads.go_to(i, t),
             Effect::Write(d, c) => {
@@ -45,18 +38,18 @@ impl Effect {
                 state.threads.go_to(i, next);
             }
         }
-        Progress::CarriedOut
+        Ok(())
     }
 }
 
 impl<V: Kind> Machine<V> {
     // Thread `i` carries out the statement that is due, if it can.
-    pub fn step(&self, state: &mut State, i: Thread) -> Progress
+    pub fn step(&self, state: &mut State, i: Thread) -> Result<(), Stop>
         ensures progress { result ≡ came_out (due_effect V.meaning (program self.now) i state.old) }
         ensures after { state.new ≡ left_by i (due_effect V.meaning (program self.now) i state.old) state.old }
     {
         match self.table.statement(i, state.threads.label(i)) {
-            None => Progress::Blocked,
+            None => Err(Stop::Cut),
             Some(s) => self.effect_of(state, i, s).apply(state, i),
         }
     }

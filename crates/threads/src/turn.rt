@@ -8,10 +8,11 @@ ghost use Rattle.threads.specs.Turns.{width, seek as first_existing, standing as
 
 use crate::machine::Machine;
 use crate::point::Point;
-use crate::slot::{Slot, SlotCount, SlotEnd};
+use crate::slot::{Slot, SlotCount};
 use kinds::Kind;
 use records::statement::Thread;
 use reports::report::Turn;
+use reports::stop::Stop;
 use states::state::State;
 use walks::outcome::{Ending, Outcome};
 
@@ -47,7 +48,7 @@ impl<V: Kind> Machine<V> {
     {
         if n.0 > self.bound(state, i) {
             return Slot {
-                end: SlotEnd::Cut,
+                end: Err(Stop::Cut),
                 count: SlotCount(0),
             };
         }
@@ -102,23 +103,16 @@ impl<V: Kind> Machine<V> {
         }
         let i = self.thread_at(at.slot);
         let slot = self.serve(&mut at.state, i, SlotCount(number));
-        let count = slot.count.0;
-        match slot.end {
-            SlotEnd::Failed => Turn {
-                count,
-                outcome: Outcome::Ended(Ending::Failed),
-            },
-            SlotEnd::Cut => Turn {
-                count,
-                outcome: Outcome::Ended(Ending::Cut),
-            },
-            SlotEnd::Done => {
+        let outcome = match slot.end {
+            Err(stop) => Outcome::Ended(stop.into()),
+            Ok(()) => {
                 at.slot = self.seek(&at.state, at.slot + 1);
-                Turn {
-                    count,
-                    outcome: self.standing(at),
-                }
+                self.standing(at)
             }
+        };
+        Turn {
+            count: slot.count.0,
+            outcome,
         }
     }
 }
