@@ -63,12 +63,9 @@ impl<V: Kind> Machine<V> {
         ensures { result ≡ first_existing (program self.now) state.now (total self.now - from) from }
     {
         let slots = self.slots();
-        for q in from..slots {
-            if state.threads.created(self.thread_at(q)) {
-                return q;
-            }
-        }
-        slots
+        (from..slots)
+            .find(|q| state.threads.created(self.thread_at(*q)))
+            .unwrap_or(slots)
     }
 
     // What a run comes to that stands at a point, with no number left.
