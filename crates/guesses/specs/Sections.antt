@@ -1,5 +1,5 @@
 -- A section runs as its thread does up to a label.
-use Rattle.std.specs.Prelude.{◌≡◌, ℕ, zero, suc, ◌+◌, ◌-◌, ◌<◌, ◌≤◌, Bool, true, false, cond, ◌||◌, ◌⊎◌, List, [], ◌∷◌, ◌++◌, length, drop, nat_le, nat_lt, refl}
+use Rattle.std.specs.Prelude.{◌≡◌, ℕ, zero, suc, ◌+◌, ◌-◌, ◌<◌, ◌≤◌, Bool, true, false, cond, ◌||◌, ◌⊎◌, List, [], ◌∷◌, ◌++◌, length, drop, nat_le, nat_lt, refl, Ok, Err}
 use Rattle.std.proofs.Common.{sym, ap, ◌∙◌, inl, inr, ⊎_elim, arith}
 use Rattle.std.proofs.lemmas.Bool.{le-ltb, lt-ltb, le-leb, lt-leb, cases_lt, or_left, or_right, or_from}
 use Rattle.kinds.specs.Meaning.{Meaning}
@@ -8,8 +8,8 @@ use Rattle.states.specs.declared.state.State.{State}
 use Rattle.states.specs.States.{label, go}
 use Rattle.tables.specs.Program.{Program, size, own}
 use Rattle.tables.specs.WellFormed.{WellFormed}
-use Rattle.threads.specs.declared.slot.SlotEnd.{SlotEnd}
-use Rattle.threads.specs.declared.slot.SlotEnd.TheVariants as slot
+use Rattle.reports.specs.Stops.{End}
+use Rattle.reports.specs.declared.stop.Stop.TheVariants as slot
 use Rattle.threads.specs.Effects.{effect, effect_of, next}
 use Rattle.threads.specs.Plays.{thread}
 use Rattle.threads.specs.Slots.{Ran}
@@ -41,10 +41,10 @@ drop_length [] (suc l) ys h e = absurd (let z : ⊥ = omega arith in z)
 drop_length (x ∷ xs) (suc l) ys h e = omega (arith, drop_length xs l ys (omega arith) e)
 
 -- how a section ends whose slot ends so
-abbrev pub section_end : SlotEnd → SectionEnd
-section_end slot.Done = end.Returned
-section_end slot.Failed = end.Failed
-section_end slot.Cut = end.Cut
+abbrev pub section_end : End → SectionEnd
+section_end (Ok tt) = end.Returned
+section_end (Err slot.Failed) = end.Failed
+section_end (Err slot.Cut) = end.Cut
 
 -- a slot of thread i as its section shows it: the label is put back to pc, for it is saved only behind the section
 abbrev pub shown : (i pc cs : ℕ) → Ran → Called

@@ -1,6 +1,7 @@
 -- The run of the driver: from guess to guess, and over a list of guesses.
 use Rattle.std.specs.Prelude.{ℕ, zero, suc, ◌+◌, ◌-◌, cond, List, [], ◌∷◌, length, take, drop, Some, None, Option, ◌==◌, nat_lt}
 use Rattle.kinds.specs.Meaning.{Meaning}
+use Rattle.reports.specs.Players.{Turned}
 use Rattle.tables.specs.Program.{Program}
 use Rattle.walks.specs.declared.outcome.Ending.TheVariants as ending
 use Rattle.walks.specs.declared.outcome.Outcome.{Outcome}
@@ -22,10 +23,8 @@ pub record Sequence : Type 0 where
   pub guide : List Instruction
 
 -- how a run stands: what it has come to, the statements carried out by the latest CALL, and where it is
-pub record Moved : Type 0 where
-  pub count : ℕ
-  pub outcome : Outcome
-  pub point : SeqPoint
+abbrev pub Moved : Type 0
+Moved = Turned SeqPoint
 
 abbrev pub point : ℕ → SeqState → SeqPoint
 point h q = record { at = at h; state = q }

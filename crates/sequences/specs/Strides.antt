@@ -3,7 +3,6 @@ use Rattle.std.specs.Prelude.{ℕ, ◌+◌, ◌-◌, cond, List, ◌==◌}
 use Rattle.kinds.specs.Meaning.{Meaning}
 use Rattle.walks.specs.declared.outcome.Ending.TheVariants as ending
 use Rattle.walks.specs.declared.outcome.Outcome.TheVariants.{Open, Ended}
-use Rattle.sequences.specs.declared.drive.SeqTurn.{SeqTurn}
 use Rattle.sequences.specs.declared.drive.Stride.{Stride}
 use Rattle.sequences.specs.declared.drive.Stride.TheVariants.{On, Over}
 use Rattle.sequences.specs.declared.instruction.Instruction.{Instruction}
@@ -12,7 +11,7 @@ use Rattle.sequences.specs.declared.section.SectionEnd.{SectionEnd}
 use Rattle.sequences.specs.declared.section.SectionEnd.TheVariants as end
 use Rattle.sequences.specs.declared.state.SeqState.{SeqState}
 use Rattle.sequences.specs.Acts.{Called, call}
-use Rattle.sequences.specs.Drives.{Move, slot, guess, enter, save, finish, stray, Moved, point}
+use Rattle.sequences.specs.Drives.{Move, slot, guess, enter, save, finish, stray, point}
 use Rattle.sequences.specs.States.{word, with_word}
 use Rattle.sequences.specs.Words.{active, saved, stop_at}
 
@@ -36,7 +35,3 @@ stride k sections h c q (enter i) = let r = call k i (sections i) q in entered h
 stride k sections h c q (save i) = strode (On c) (point (h + 1) (with_word q (saved i) (word q stop_at)))
 stride k sections h c q finish = strode (Over c (Ended ending.Full)) (point h q)
 stride k sections h c q stray = strode (Over c (Ended ending.Cut)) (point h q)
-
--- what a run has come to, with the point where it is
-abbrev pub with_point : SeqTurn → SeqPoint → Moved
-with_point t p = record { count = t.count; outcome = t.outcome; point = p }

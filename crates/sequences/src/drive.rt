@@ -1,10 +1,11 @@
 // The run of the driver: from guess to guess.
 ghost use Rattle.std.specs.Prelude.{◌≡◌, ◌<◌, ◌≤◌, true, length, drop, is_some};
+ghost use Rattle.reports.specs.Players.{with_point};
 ghost use Rattle.sequences.specs.Acts.{call as called_so};
 ghost use Rattle.sequences.specs.Drives.{move, move_of, first_move, proceeds, guessed, turn as turned_so};
 ghost use Rattle.sequences.specs.Passages.{with_state};
 ghost use Rattle.sequences.specs.Sequences.{sections_of, guide_of, instructions, starts};
-ghost use Rattle.sequences.specs.Strides.{strode, entered, stride as strides_so, with_point};
+ghost use Rattle.sequences.specs.Strides.{strode, entered, stride as strides_so};
 
 use crate::instruction::{Address, Instruction};
 use crate::point::SeqPoint;
@@ -14,14 +15,8 @@ use crate::state::{STOP_AT, SeqState, saved};
 use kinds::Kind;
 use records::lookup::{item_or, part_of};
 use records::statement::Thread;
+use reports::report::Turn;
 use walks::outcome::{Ending, Outcome};
-
-// What a number came to: the statements carried out by the latest CALL, and how the run stands then.
-#[derive(Clone, Copy)]
-pub struct SeqTurn {
-    pub count: u8,
-    pub outcome: Outcome,
-}
 
 // Whether the driver goes on behind an instruction, and the latest CALL's count.
 #[derive(Clone, Copy)]
@@ -120,30 +115,30 @@ impl<V: Kind> Sequence<V> {
     }
 
     // From a point to the next GUESS, or to the end.
-    fn proceed(&self, at: &mut SeqPoint) -> SeqTurn
+    fn proceed(&self, at: &mut SeqPoint) -> Turn
         ensures { with_point result at.new ≡ proceeds V.meaning (instructions self.now) at.old.at.0 at.old.state }
     {
         let mut count = 0;
         for _step in 0..self.driver.len() {
             match self.stride(at, count) {
                 Stride::On(c) => count = c,
-                Stride::Over(c, outcome) => return SeqTurn { count: c, outcome },
+                Stride::Over(c, outcome) => return Turn { count: c, outcome },
             }
         }
-        SeqTurn {
+        Turn {
             count,
             outcome: Outcome::Ended(Ending::Cut),
         }
     }
 
     // The number read by GUESS `i n` at a point.
-    fn guess(&self, at: &mut SeqPoint, i: Thread, n: u8, number: u8) -> SeqTurn
+    fn guess(&self, at: &mut SeqPoint, i: Thread, n: u8, number: u8) -> Turn
         requires { at.old.at.0 < 257 }
         ensures { with_point result at.new ≡ guessed V.meaning (instructions self.now) at.old.at.0 i.0 n number at.old.state }
     {
         let label = at.state.word(saved(i));
         if number > n.saturating_sub(label) {
-            return SeqTurn {
+            return Turn {
                 count: 0,
                 outcome: Outcome::Ended(Ending::Cut),
             };
@@ -154,12 +149,12 @@ impl<V: Kind> Sequence<V> {
     }
 
     // Goes on from a point by one number; where no GUESS waits, the run is cut.
-    pub fn turn(&self, at: &mut SeqPoint, number: u8) -> SeqTurn
+    pub fn turn(&self, at: &mut SeqPoint, number: u8) -> Turn
         ensures { with_point result at.new ≡ turned_so V.meaning (instructions self.now) at.old number }
     {
         match self.next(at.at) {
             Some(Instruction::Guess { i, n }) => self.guess(at, i, n, number),
-            _ => SeqTurn {
+            _ => Turn {
                 count: 0,
                 outcome: Outcome::Ended(Ending::Cut),
             },
