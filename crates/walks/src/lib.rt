@@ -4,7 +4,6 @@
 mod cursor;
 pub mod found;
 pub mod outcome;
-mod path;
 pub mod runner;
 mod tally;
 pub mod walk;

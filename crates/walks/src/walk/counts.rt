@@ -1,6 +1,6 @@
 // What a walk has counted.
 ghost use Rattle.std.specs.Prelude.{◌≡◌, ◌≤◌, length};
-ghost use Rattle.walks.specs.Tallies.{visited, latest_list};
+ghost use Rattle.walks.specs.Tallies.{visited, latest_list, place};
 
 use crate::found::Found;
 use crate::walk::Walk;
@@ -32,9 +32,9 @@ impl<P: Copy> Walk<P> {
 
     // The latest failing list, but its numbers.
     pub fn found(&self) -> Option<Found>
-        ensures { result ≡ self.now.tally.found }
+        ensures { result ≡ place self.now.tally.latest }
     {
-        self.tally.found
+        self.tally.found()
     }
 
     // The numbers of the latest failing list, and none before there is one.
