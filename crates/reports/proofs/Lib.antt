@@ -1,1 +1,3 @@
 pub mod Playing
+pub mod Answers
+pub mod Onward

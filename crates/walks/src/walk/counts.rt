@@ -1,9 +1,11 @@
 // What a walk has counted.
 ghost use Rattle.std.specs.Prelude.{◌≡◌, ◌≤◌, length};
+ghost use Rattle.walks.specs.Counts.{tally_counts};
 ghost use Rattle.walks.specs.Tallies.{visited, latest_list, place};
 
+use crate::counts::Counts;
 use crate::found::Found;
-use crate::walk::Walk;
+use crate::walk::{Answer, Walk};
 
 impl<P: Copy> Walk<P> {
     pub fn visited(&self) -> u32
@@ -28,6 +30,19 @@ impl<P: Copy> Walk<P> {
         ensures { result ≡ self.now.tally.full }
     {
         self.tally.full
+    }
+
+    // All of these, beside what a call answered.
+    pub fn counts(&self, answer: Answer) -> Counts
+        ensures { result ≡ tally_counts answer self.now.tally }
+    {
+        Counts {
+            answer,
+            visited: self.visited(),
+            failed: self.failed(),
+            cut: self.cut(),
+            full: self.full(),
+        }
     }
 
     // The latest failing list, but its numbers.
