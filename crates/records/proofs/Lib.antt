@@ -1,3 +1,4 @@
 pub mod Split
 pub mod Writes
 pub mod Parts
+pub mod Rooms

@@ -5,5 +5,6 @@ pub mod body;
 pub mod lookup;
 pub mod reader;
 pub mod refusal;
+pub mod reserved;
 pub mod row;
 pub mod statement;
