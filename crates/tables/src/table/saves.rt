@@ -11,13 +11,19 @@ use crate::table::Table;
 use crate::text::ThreadText;
 use kinds::Kind;
 use records::refusal::Refusal;
-use records::row::{put, row, statement_row};
+use records::row::{Mark, put, statement_row};
+
+const PG: Mark = Mark(b'P', b'G');
+
+const SC: Mark = Mark(b'S', b'C');
+
+const TH: Mark = Mark(b'T', b'H');
 
 // The record of a cell.
 fn cell_record(i: u8, code: u32) -> [u8; 10]
     ensures { result ≡ cell_row i code }
 {
-    row(b'S', b'C', i, 0, 0, 0, code)
+    SC.row(i, 0, 0, 0, code)
 }
 
 impl Table {
@@ -63,7 +69,7 @@ impl Table {
         ensures after { out.new ≡ wrote out.old start (own_thread_bytes i t from n self.now.statements.items) }
         ensures next { result ≡ start + length (own_thread_bytes i t from n self.now.statements.items) }
     {
-        let at = put(out, start, row(b'T', b'H', i, t.locals, t.size, 0, 0));
+        let at = put(out, start, TH.row(i, t.locals, t.size, 0, 0));
         self.save_statements(out, at, from, n)
     }
 
@@ -117,9 +123,7 @@ impl Table {
     fn header<V: Kind>(&self) -> [u8; 10]
         ensures { result ≡ header_row V.meaning.byte (view self.now) }
     {
-        row(
-            b'P',
-            b'G',
+        PG.row(
             V::kind_byte(),
             self.cells.len() as u8,
             self.mutexes,
