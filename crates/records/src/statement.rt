@@ -8,7 +8,7 @@ pub enum Place {
 }
 
 // A place in a thread's text: the number of the statement that is due there.
-#[derive(Clone, Copy)]
+#[derive(Clone, Copy, PartialEq, Eq)]
 pub struct Label(pub u8);
 
 // A mutex, by its number.

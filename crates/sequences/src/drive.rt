@@ -6,11 +6,11 @@ ghost use Rattle.sequences.specs.Passages.{with_state};
 ghost use Rattle.sequences.specs.Sequences.{sections_of, guide_of, instructions, starts};
 ghost use Rattle.sequences.specs.Strides.{strode, entered, stride as strides_so, with_point};
 
-use crate::instruction::{Address, Instruction};
+use crate::instruction::{Address, Instruction, STOP_AT, Word};
 use crate::point::SeqPoint;
 use crate::section::{Section, SectionEnd, call_section};
 use crate::sequence::{Part, Sequence};
-use crate::state::{STOP_AT, SeqState, saved};
+use crate::state::SeqState;
 use kinds::Kind;
 use records::lookup::{item_or, part_of};
 use records::statement::Thread;
@@ -54,12 +54,7 @@ impl<V: Kind> Sequence<V> {
         ensures value { move_of result ≡ first_move (drop at.0 (guide_of self.now)) }
         ensures below { is_some result ≡ true → at.0 < 257 }
     {
-        let at = at.0 as usize;
-        if at < self.driver.len() {
-            Some(self.driver[at])
-        } else {
-            None
-        }
+        self.driver().get(at.0 as usize).copied()
     }
 
     // Thread `i`'s section, called at a point.
@@ -86,7 +81,7 @@ impl<V: Kind> Sequence<V> {
         let behind = Address(at.at.0 + 1);
         match instruction {
             Instruction::Slot { i, to } => {
-                at.at = if at.state.word(i.0 as usize) == 0 {
+                at.at = if at.state.word(Word::active(i)) == 0 {
                     to
                 } else {
                     behind
@@ -94,13 +89,13 @@ impl<V: Kind> Sequence<V> {
                 Stride::On(count)
             }
             Instruction::Guess { i, n } => {
-                let bound = n.saturating_sub(at.state.word(saved(i)));
+                let bound = n.saturating_sub(at.state.saved(i));
                 Stride::Over(count, Outcome::Open(bound))
             }
             Instruction::Call { i } => self.enter(at, i),
             Instruction::Save { i } => {
                 let label = at.state.word(STOP_AT);
-                at.state.set_word(saved(i), label);
+                at.state.save(i, label);
                 at.at = behind;
                 Stride::On(count)
             }
@@ -141,7 +136,7 @@ impl<V: Kind> Sequence<V> {
         requires { at.old.at.0 < 257 }
         ensures { with_point result at.new ≡ guessed V.meaning (instructions self.now) at.old.at.0 i.0 n number at.old.state }
     {
-        let label = at.state.word(saved(i));
+        let label = at.state.saved(i);
         if number > n.saturating_sub(label) {
             return SeqTurn {
                 count: 0,

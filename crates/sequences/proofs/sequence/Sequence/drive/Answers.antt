@@ -11,7 +11,7 @@ returns-in-Err g c =
     let k = g.V.Kind.meaning in
     let s = c.args.self.now in
     let ns = c.args.numbers.now in
-    let own = ap (λ n. refusal ns c.args.counts.now c.args.cells.now n) (sym (c.len.ensures ∙ s.cells.ok.0)) in
+    let own = ap (λ n. refusal ns c.args.counts.now c.args.cells.now n) (sym c.len.ensures.value) in
     let e = own ∙ refused_by _ _ c.in-Err.ensures in
     record {
       answer = sym (ap (λ x. answered x (reported (drives_so k s ns))) e);
@@ -26,7 +26,7 @@ returns-in-Ok g c =
     let k = g.V.Kind.meaning in
     let s = c.args.self.now in
     let ns = c.args.numbers.now in
-    let own = ap (λ n. refusal ns c.args.counts.now c.args.cells.now n) (sym (c.len.ensures ∙ s.cells.ok.0)) in
+    let own = ap (λ n. refusal ns c.args.counts.now c.args.cells.now n) (sym c.len.ensures.value) in
     let e = own ∙ accepted_by _ c.in-Ok.ensures in
     let h = c.driven.ensures in
     let r = h.report in

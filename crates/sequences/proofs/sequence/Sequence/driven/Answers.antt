@@ -16,7 +16,7 @@ returns g c =
     let xs = c.run-report.new.at.state.cells in
     let out = c.args.cells.now in
     let own = c.len-own.result in
-    let eo : own ≡ length (codes_of s) = c.len-own.ensures ∙ s.cells.ok.0 in
+    let eo : own ≡ length (codes_of s) = c.len-own.ensures.value in
     let room : own ≤ length out = omega (arith, c.requires.cells) in
     let len : length c.copy_from_slice.new.self ≡ own = c.copy_from_slice.ensures.len ∙ length-take-le (own - 0) out (omega arith) ∙ (let z : own - 0 ≡ own = omega arith in z) in
     record {

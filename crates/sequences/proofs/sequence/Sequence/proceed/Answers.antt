@@ -6,20 +6,17 @@ use Rattle.sequences.proofs.sequence.Sequence.proceed.Goals as goal
 pub returns-in-Over : goal.returns-in-Over
 returns-in-Over g c =
     let s = c.args.self.now in
-    let len = s.driver.ok.0 in
     let l : c.loop-step._step < length (guide_of s) = omega arith in
     sym (c.loop-step.invariant ∙ proceed_after g.V.Kind.meaning (instructions s) (length (guide_of s)) c.loop-step._step c.loop-step.at.at.0 c.loop-step.count c.loop-step.at.state _ c.stride.new.at l c.in-Over.ensures)
 
 pub loop-step-preserved : goal.loop-step-preserved
 loop-step-preserved g c =
     let s = c.args.self.now in
-    let len = s.driver.ok.0 in
     let l : c.loop-step._step < length (guide_of s) = omega arith in
     c.loop-step.invariant ∙ proceed_after g.V.Kind.meaning (instructions s) (length (guide_of s)) c.loop-step._step c.loop-step.at.at.0 c.loop-step.count c.loop-step.at.state _ c.stride.new.at l c.in-On.ensures
 
 pub returns : goal.returns
 returns g c =
     let s = c.args.self.now in
-    let len = s.driver.ok.0 in
     let l : length (guide_of s) ≤ c.loop-step._step = omega arith in
     sym (c.loop-step.invariant ∙ proceed_none g.V.Kind.meaning (instructions s) (length (guide_of s)) c.loop-step._step c.loop-step.at.at.0 c.loop-step.count c.loop-step.at.state l)
