@@ -4,11 +4,12 @@ use Rattle.std.specs.List.{HoldsAt}
 use Rattle.std.specs.Option.{option_copied}
 use Rattle.std.proofs.lemmas.Bool.{false≢true}
 use Rattle.std.proofs.lemmas.List.{drop_more, drop_all}
+use Rattle.std.specs.declared.ops.ControlFlow.{ControlFlow}
+use Rattle.std.specs.declared.ops.ControlFlow.TheVariants.{Continue, Break}
 use Rattle.kinds.specs.Meaning.{Meaning}
 use Rattle.walks.specs.declared.outcome.Ending.TheVariants.{Cut}
 use Rattle.walks.specs.declared.outcome.Outcome.TheVariants.{Ended}
-use Rattle.sequences.specs.declared.drive.Stride.{Stride}
-use Rattle.sequences.specs.declared.drive.Stride.TheVariants.{On, Over}
+use Rattle.sequences.specs.declared.drive.SeqTurn.{SeqTurn}
 use Rattle.sequences.specs.declared.instruction.Instruction.{Instruction}
 use Rattle.sequences.specs.declared.point.SeqPoint.{SeqPoint}
 use Rattle.sequences.specs.declared.section.SectionEnd.{SectionEnd}
@@ -33,9 +34,9 @@ got_below h xs None n l few e = absurd (false≢true e)
 got_below h xs (Some x) n l few e = omega (arith, l.0)
 
 -- what an instruction makes of the run: `more` is the run from another address
-abbrev pub onward : (ℕ → ℕ → SeqState → Moved) → SeqPoint → Stride → Moved
-onward more p (On c) = more p.at.0 c p.state
-onward more p (Over c o) = moved c o p.at.0 p.state
+abbrev pub onward : (ℕ → ℕ → SeqState → Moved) → SeqPoint → ControlFlow SeqTurn ℕ → Moved
+onward more p (Continue c) = more p.at.0 c p.state
+onward more p (Break t) = moved t.count t.outcome p.at.0 p.state
 
 abbrev onward_by : (ℕ → ℕ → SeqState → Moved) → Strode → Moved
 onward_by more s = onward more s.point s.stride
@@ -59,7 +60,7 @@ driven_onward k sections h c q more stray = refl
 
 module _ (k : Meaning) (s : Sequence) (n : ℕ) where
   -- the run goes on as the instruction at its address says
-  pub proceed_after : (z h c : ℕ) (q : SeqState) (t : Stride) (p : SeqPoint) → z < n → strode t p ≡ stride k s.sections h c q (first_move (drop h s.guide)) → proceed k s (n - z) h c q ≡ onward (proceed k s (n - (z + 1))) p t
+  pub proceed_after : (z h c : ℕ) (q : SeqState) (t : ControlFlow SeqTurn ℕ) (p : SeqPoint) → z < n → strode t p ≡ stride k s.sections h c q (first_move (drop h s.guide)) → proceed k s (n - z) h c q ≡ onward (proceed k s (n - (z + 1))) p t
   unfolding proceed
   proceed_after z h c q t p l e =
       let m : n - z ≡ suc (n - (z + 1)) = omega arith in

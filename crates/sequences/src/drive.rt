@@ -4,7 +4,7 @@ ghost use Rattle.sequences.specs.Acts.{call as called_so};
 ghost use Rattle.sequences.specs.Drives.{move, move_of, first_move, proceeds, guessed, turn as turned_so};
 ghost use Rattle.sequences.specs.Passages.{with_state};
 ghost use Rattle.sequences.specs.Sequences.{sections_of, guide_of, instructions, starts};
-ghost use Rattle.sequences.specs.Strides.{strode, entered, stride as strides_so, with_point};
+ghost use Rattle.sequences.specs.Strides.{strode, entered, over, stride as strides_so, with_point};
 
 use crate::instruction::{Address, Instruction, STOP_AT, Word};
 use crate::point::SeqPoint;
@@ -14,6 +14,7 @@ use crate::state::SeqState;
 use kinds::Kind;
 use records::lookup::{item_or, part_of};
 use records::statement::Thread;
+use std::ops::ControlFlow;
 use walks::outcome::{Ending, Outcome};
 
 // What a number came to: the statements carried out by the latest CALL, and how the run stands then.
@@ -23,11 +24,19 @@ pub struct SeqTurn {
     pub outcome: Outcome,
 }
 
-// Whether the driver goes on behind an instruction, and the latest CALL's count.
-#[derive(Clone, Copy)]
-pub enum Stride {
-    On(u8),
-    Over(u8, Outcome),
+// The driver goes on behind an instruction with the latest CALL's count, or the turn is over.
+type Stride = ControlFlow<SeqTurn, u8>;
+
+impl SeqTurn {
+    // A turn with which the run has ended.
+    fn ended(count: u8, ending: Ending) -> SeqTurn
+        ensures { result ≡ over count ending }
+    {
+        SeqTurn {
+            count,
+            outcome: Outcome::Ended(ending),
+        }
+    }
 }
 
 impl<V: Kind> Sequence<V> {
@@ -66,10 +75,10 @@ impl<V: Kind> Sequence<V> {
         match section.end {
             SectionEnd::Returned => {
                 at.at = Address(at.at.0 + 1);
-                Stride::On(section.count)
+                ControlFlow::Continue(section.count)
             }
-            SectionEnd::Failed => Stride::Over(section.count, Outcome::Ended(Ending::Failed)),
-            SectionEnd::Cut => Stride::Over(section.count, Outcome::Ended(Ending::Cut)),
+            SectionEnd::Failed => ControlFlow::Break(SeqTurn::ended(section.count, Ending::Failed)),
+            SectionEnd::Cut => ControlFlow::Break(SeqTurn::ended(section.count, Ending::Cut)),
         }
     }
 
@@ -86,21 +95,24 @@ impl<V: Kind> Sequence<V> {
                 } else {
                     behind
                 };
-                Stride::On(count)
+                ControlFlow::Continue(count)
             }
             Instruction::Guess { i, n } => {
                 let bound = n.saturating_sub(at.state.saved(i));
-                Stride::Over(count, Outcome::Open(bound))
+                ControlFlow::Break(SeqTurn {
+                    count,
+                    outcome: Outcome::Open(bound),
+                })
             }
             Instruction::Call { i } => self.enter(at, i),
             Instruction::Save { i } => {
                 let label = at.state.word(STOP_AT);
                 at.state.save(i, label);
                 at.at = behind;
-                Stride::On(count)
+                ControlFlow::Continue(count)
             }
-            Instruction::End => Stride::Over(count, Outcome::Ended(Ending::Full)),
-            _ => Stride::Over(count, Outcome::Ended(Ending::Cut)),
+            Instruction::End => ControlFlow::Break(SeqTurn::ended(count, Ending::Full)),
+            _ => ControlFlow::Break(SeqTurn::ended(count, Ending::Cut)),
         }
     }
 
@@ -110,7 +122,7 @@ impl<V: Kind> Sequence<V> {
     {
         match self.next(at.at) {
             Some(instruction) => self.obey(at, count, instruction),
-            None => Stride::Over(count, Outcome::Ended(Ending::Cut)),
+            None => ControlFlow::Break(SeqTurn::ended(count, Ending::Cut)),
         }
     }
 
@@ -121,14 +133,11 @@ impl<V: Kind> Sequence<V> {
         let mut count = 0;
         for _step in 0..self.driver.len() {
             match self.stride(at, count) {
-                Stride::On(c) => count = c,
-                Stride::Over(c, outcome) => return SeqTurn { count: c, outcome },
+                ControlFlow::Continue(c) => count = c,
+                ControlFlow::Break(turn) => return turn,
             }
         }
-        SeqTurn {
-            count,
-            outcome: Outcome::Ended(Ending::Cut),
-        }
+        SeqTurn::ended(count, Ending::Cut)
     }
 
     // The number read by GUESS `i n` at a point.
@@ -138,10 +147,7 @@ impl<V: Kind> Sequence<V> {
     {
         let label = at.state.saved(i);
         if number > n.saturating_sub(label) {
-            return SeqTurn {
-                count: 0,
-                outcome: Outcome::Ended(Ending::Cut),
-            };
+            return SeqTurn::ended(0, Ending::Cut);
         }
         at.state.set_word(STOP_AT, label + number);
         at.at = Address(at.at.0 + 1);
@@ -154,10 +160,7 @@ impl<V: Kind> Sequence<V> {
     {
         match self.next(at.at) {
             Some(Instruction::Guess { i, n }) => self.guess(at, i, n, number),
-            _ => SeqTurn {
-                count: 0,
-                outcome: Outcome::Ended(Ending::Cut),
-            },
+            _ => SeqTurn::ended(0, Ending::Cut),
         }
     }
 

@@ -11,12 +11,17 @@ pub struct Part {
     pub size: u8,
 }
 
+// The driver has room for eight rounds of eight threads, and the sections for eight threads of 48 statements.
+pub(crate) type Driver = Reserved<Instruction, 257>;
+
+pub(crate) type Sections = Reserved<Instruction, 1936>;
+
 // The initial codes of the cells, the driver, and the sections of all threads one behind the other.
 #[derive(Drop)]
 pub struct Sequence<V: Kind> {
     pub(crate) cells: Reserved<u32, 16>,
-    pub(crate) driver: Reserved<Instruction, 257>,
-    pub(crate) sections: Reserved<Instruction, 1936>,
+    pub(crate) driver: Driver,
+    pub(crate) sections: Sections,
     pub(crate) parts: Reserved<Part, 8>,
     pub(crate) kind: PhantomData<V>,
 }

@@ -6,8 +6,7 @@ ghost use Rattle.sequences.specs.Code.{section as section_code};
 ghost use Rattle.sequences.specs.Sequences.{Holds, codes_of, guide_of, sections_of, parts_in, part_between};
 ghost use Rattle.sequences.specs.Writes.{Translatable};
 
-use crate::instruction::Instruction;
-use crate::sequence::{Part, Sequence};
+use crate::sequence::{Part, Sections, Sequence};
 use crate::writes::{write_driver, write_section};
 use kinds::Kind;
 use records::reserved::Reserved;
@@ -27,11 +26,7 @@ fn between(first: usize, end: usize) -> Part
 }
 
 // The sections of all threads one behind the other in the place of the old ones, and which part each is.
-fn write_sections(
-    sections: &mut Reserved<Instruction, 1936>,
-    parts: &mut Reserved<Part, 8>,
-    table: &Table,
-)
+fn write_sections(sections: &mut Sections, parts: &mut Reserved<Part, 8>, table: &Table)
     ensures { Translatable (view table.now) → (i : ℕ) → i < length (view table.now).texts → parts_in sections.new parts.new i ≡ section_code (view table.now) i }
 {
     sections.clear();

@@ -9,7 +9,7 @@ ghost use Rattle.sequences.specs.Writes.{Low, hop_code, label_code, slot_code};
 
 use crate::instruction::{Address, Instruction, Word};
 use crate::labels::Layout;
-use records::reserved::Reserved;
+use crate::sequence::{Driver, Sections};
 use records::statement::{Label, Statement, Thread};
 use tables::table::Table;
 
@@ -37,7 +37,7 @@ impl<'a> Writer<'a> {
     }
 
     // The instructions of a statement.
-    fn write_statement(&self, code: &mut Reserved<Instruction, 1936>, x: Statement)
+    fn write_statement(&self, code: &mut Sections, x: Statement)
         ensures { Low x → code.new ≡ take 1936 (code.old ++ inner (view self.now.table.now) self.now.i.0 (address_in (view self.now.table.now) self.now.i.0) x) }
     {
         match x {
@@ -66,22 +66,18 @@ impl<'a> Writer<'a> {
             }),
             Statement::Lock { m } => {
                 let w = Word::lock(m);
-                code.extend_from_slice(
-                    &[
-                        Instruction::MustNot { w, v: 1 },
-                        Instruction::Need { w, v: 0 },
-                        Instruction::Put { w, v: 2 + self.i.0 },
-                    ],
-                );
+                code.extend_from_slice(&[
+                    Instruction::MustNot { w, v: 1 },
+                    Instruction::Need { w, v: 0 },
+                    Instruction::Put { w, v: 2 + self.i.0 },
+                ]);
             }
             Statement::Unlock { m } => {
                 let w = Word::lock(m);
-                code.extend_from_slice(
-                    &[
-                        Instruction::Must { w, v: 2 + self.i.0 },
-                        Instruction::Put { w, v: 0 },
-                    ],
-                );
+                code.extend_from_slice(&[
+                    Instruction::Must { w, v: 2 + self.i.0 },
+                    Instruction::Put { w, v: 0 },
+                ]);
             }
             Statement::Create { j } => code.push(Instruction::Put {
                 w: Word::active(j),
@@ -95,7 +91,7 @@ impl<'a> Writer<'a> {
     }
 
     // The label `l`, whose statement is `x`, with the guard of the next label, if that has one.
-    fn write_label(&self, code: &mut Reserved<Instruction, 1936>, l: u8, x: Statement)
+    fn write_label(&self, code: &mut Sections, l: u8, x: Statement)
         requires { l < 255 }
         ensures { Low x → code.new ≡ take 1936 (code.old ++ label_code (view self.now.table.now) self.now.i.0 (own (view self.now.table.now) self.now.i.0) (address_in (view self.now.table.now) self.now.i.0) l x) }
     {
@@ -109,7 +105,7 @@ impl<'a> Writer<'a> {
 }
 
 // Thread `i`'s section.
-pub(crate) fn write_section(code: &mut Reserved<Instruction, 1936>, table: &Table, i: Thread)
+pub(crate) fn write_section(code: &mut Sections, table: &Table, i: Thread)
     requires { i.0 < 8 }
     ensures { AllByRecursion Low (own (view table.now) i.0) → code.new ≡ take 1936 (code.old ++ section_code (view table.now) i.0) }
 {
@@ -126,24 +122,22 @@ pub(crate) fn write_section(code: &mut Reserved<Instruction, 1936>, table: &Tabl
 }
 
 // Thread `i`'s slot, at an address of the driver.
-fn write_slot(driver: &mut Reserved<Instruction, 257>, table: &Table, i: Thread, at: u16)
+fn write_slot(driver: &mut Driver, table: &Table, i: Thread, at: u16)
     requires { at ≤ 8192 }
     ensures { driver.new ≡ take 257 (driver.old ++ slot_code (view table.now) i.0 at) }
 {
-    driver.extend_from_slice(
-        &[
-            Instruction::Slot {
-                i,
-                to: Address(4 + at),
-            },
-            Instruction::Guess {
-                i,
-                n: table.size(i),
-            },
-            Instruction::Call { i },
-            Instruction::Save { i },
-        ],
-    );
+    driver.extend_from_slice(&[
+        Instruction::Slot {
+            i,
+            to: Address(4 + at),
+        },
+        Instruction::Guess {
+            i,
+            n: table.size(i),
+        },
+        Instruction::Call { i },
+        Instruction::Save { i },
+    ]);
 }
 
 // How many slots so many rounds have.
@@ -163,7 +157,7 @@ fn thread_at(table: &Table, q: u16) -> Thread
 }
 
 // The driver of so many rounds.
-pub(crate) fn write_driver(driver: &mut Reserved<Instruction, 257>, table: &Table, rounds: u8)
+pub(crate) fn write_driver(driver: &mut Driver, table: &Table, rounds: u8)
     ensures { driver.new ≡ take 257 (driver.old ++ driver_code (view table.now) rounds) }
 {
     for q in 0..slots(table, rounds) {
