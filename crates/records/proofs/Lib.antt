@@ -1,3 +1,4 @@
 pub mod Chunks
 pub mod Writes
 pub mod Rooms
+pub mod Fills

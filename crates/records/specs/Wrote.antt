@@ -14,3 +14,7 @@ counted out bs = cond (nat_le (length bs) (length out)) (Ok (length bs)) (Err Bu
 -- and the buffer then: the bytes past them stay, and a refusal changes nothing
 abbrev pub filled : List ℕ → List ℕ → List ℕ
 filled out bs = cond (nat_le (length bs) (length out)) (bs ++ drop (length bs) out) out
+
+-- whether a buffer of so many items has room for n
+abbrev pub room_for : ℕ → ℕ → Result (Unit {0}) Refusal
+room_for n len = cond (nat_le n len) (Ok tt) (Err BufferShort)

@@ -1,8 +1,9 @@
 // The bytes of a record.
 ghost use Rattle.std.specs.Prelude.{◌≡◌, ◌+◌, ◌≤◌, length};
 ghost use Rattle.records.specs.Rows.{letters, marked, statement_row};
-ghost use Rattle.records.specs.Wrote.{wrote};
+ghost use Rattle.records.specs.Wrote.{wrote, room_for as has_room};
 
+use crate::refusal::Refusal;
 use crate::statement::Statement;
 
 // The two letters that a record begins with. The last three are those of a sequential program's file.
@@ -80,4 +81,14 @@ pub fn put(out: &mut [u8], at: usize, r: [u8; 10]) -> usize
 {
     out[at..at + 10].copy_from_slice(&r);
     at + 10
+}
+
+// Whether a buffer has room for so many items.
+pub fn room_for<T>(out: &[T], n: usize) -> Result<(), Refusal>
+    ensures { result ≡ has_room n (length out.now) }
+{
+    if out.len() < n {
+        return Err(Refusal::BufferShort);
+    }
+    Ok(())
 }

@@ -1,3 +1,2 @@
 pub mod Playing
-pub mod Answers
 pub mod Onward

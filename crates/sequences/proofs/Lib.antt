@@ -3,7 +3,6 @@ pub mod Strides
 pub mod Driving
 pub mod Lawfuls
 pub mod Ways
-pub mod Rooms
 pub mod Writings
 pub mod Joined
 pub mod Drivers

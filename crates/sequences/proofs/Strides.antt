@@ -1,34 +1,42 @@
 -- One more instruction of the driver.
-use Rattle.std.proofs.Common.{◌≡◌, ℕ, suc, ◌+◌, ◌-◌, ◌<◌, ◌≤◌, Bool, true, false, cond, eqb, List, length, get_or, drop, sym, refl, ap, ◌∙◌, arith}
+use Rattle.std.proofs.Common.{◌≡◌, ℕ, suc, ◌+◌, ◌-◌, ◌<◌, ◌≤◌, Bool, true, false, cond, eqb, List, length, Some, None, Option, is_some, Bor, MatchOption, drop, sym, refl, ap, ◌∙◌, arith}
+use Rattle.std.specs.List.{HoldsAt}
+use Rattle.std.specs.Option.{option_copied}
+use Rattle.std.proofs.lemmas.Bool.{false≢true}
 use Rattle.std.proofs.lemmas.List.{drop_more, drop_all}
+use Rattle.std.specs.declared.ops.ControlFlow.{ControlFlow}
+use Rattle.std.specs.declared.ops.ControlFlow.TheVariants.{Continue, Break}
 use Rattle.kinds.specs.Meaning.{Meaning}
 use Rattle.walks.specs.declared.outcome.Ending.TheVariants.{Cut}
 use Rattle.walks.specs.declared.outcome.Outcome.TheVariants.{Ended}
-use Rattle.sequences.specs.declared.drive.Stride.{Stride}
-use Rattle.sequences.specs.declared.drive.Stride.TheVariants.{On, Over}
+use Rattle.reports.specs.declared.report.Turn.{Turn}
 use Rattle.sequences.specs.declared.instruction.Instruction.{Instruction}
 use Rattle.sequences.specs.declared.point.SeqPoint.{SeqPoint}
 use Rattle.sequences.specs.declared.section.SectionEnd.{SectionEnd}
 use Rattle.sequences.specs.declared.section.SectionEnd.TheVariants as end
 use Rattle.sequences.specs.declared.state.SeqState.{SeqState}
 use Rattle.sequences.specs.Acts.{Called, call}
-use Rattle.sequences.specs.Drives.{Sequence, Moved, moved, Move, slot, guess, enter, save, finish, stray, move, first_move, returned, driven, proceed}
+use Rattle.sequences.specs.Drives.{Sequence, Moved, moved, Move, slot, guess, enter, save, finish, stray, move, move_of, first_move, returned, driven, proceed}
 use Rattle.sequences.specs.States.{word}
 use Rattle.sequences.specs.Strides.{Strode, strode, entered, stride}
 use Rattle.sequences.specs.Words.{active}
 
--- the instruction at an address
-module _ (guide : List Instruction) (h : ℕ) where
-  pub first_there : (x : Instruction) → h < length guide → x ≡ get_or guide h x → move x ≡ first_move (drop h guide)
-  first_there x l e = ap move e ∙ sym (ap first_move (drop_more guide h x l))
+-- the instruction at an address, as `get` finds it
+abbrev Got : ℕ → List Instruction → Option (Bor Instruction) → Type 0
+Got h xs o = MatchOption o (length xs ≤ h) (λ x. (h < length xs) × HoldsAt (λ y. x.now ≡ y) xs h)
 
-  pub first_past : length guide ≤ h → stray ≡ first_move (drop h guide)
-  first_past l = sym (ap first_move (drop_all h guide l))
+pub first_got : (guide : List Instruction) (h : ℕ) (xs : List Instruction) (o : Option (Bor Instruction)) → xs ≡ guide → Got h xs o → move_of (option_copied o) ≡ first_move (drop h guide)
+first_got guide h xs None e l = sym (ap first_move (drop_all h xs l)) ∙ ap (λ ys. first_move (drop h ys)) e
+first_got guide h xs (Some x) e l = ap move (l.1 x.now) ∙ sym (ap first_move (drop_more xs h x.now l.0)) ∙ ap (λ ys. first_move (drop h ys)) e
+
+pub got_below : (h : ℕ) (xs : List Instruction) (o : Option (Bor Instruction)) (n : ℕ) → Got h xs o → length xs ≤ n → is_some (option_copied o) ≡ true → h < n
+got_below h xs None n l few e = absurd (false≢true e)
+got_below h xs (Some x) n l few e = omega (arith, l.0)
 
 -- what an instruction makes of the run: `more` is the run from another address
-abbrev pub onward : (ℕ → ℕ → SeqState → Moved) → SeqPoint → Stride → Moved
-onward more p (On c) = more p.at.0 c p.state
-onward more p (Over c o) = moved c o p.at.0 p.state
+abbrev pub onward : (ℕ → ℕ → SeqState → Moved) → SeqPoint → ControlFlow Turn ℕ → Moved
+onward more p (Continue c) = more p.at.0 c p.state
+onward more p (Break t) = moved t.count t.outcome p.at.0 p.state
 
 abbrev onward_by : (ℕ → ℕ → SeqState → Moved) → Strode → Moved
 onward_by more s = onward more s.point s.stride
@@ -52,7 +60,7 @@ driven_onward k sections h c q more stray = refl
 
 module _ (k : Meaning) (s : Sequence) (n : ℕ) where
   -- the run goes on as the instruction at its address says
-  pub proceed_after : (z h c : ℕ) (q : SeqState) (t : Stride) (p : SeqPoint) → z < n → strode t p ≡ stride k s.sections h c q (first_move (drop h s.guide)) → proceed k s (n - z) h c q ≡ onward (proceed k s (n - (z + 1))) p t
+  pub proceed_after : (z h c : ℕ) (q : SeqState) (t : ControlFlow Turn ℕ) (p : SeqPoint) → z < n → strode t p ≡ stride k s.sections h c q (first_move (drop h s.guide)) → proceed k s (n - z) h c q ≡ onward (proceed k s (n - (z + 1))) p t
   unfolding proceed
   proceed_after z h c q t p l e =
       let m : n - z ≡ suc (n - (z + 1)) = omega arith in

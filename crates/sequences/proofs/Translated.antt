@@ -2,7 +2,6 @@
 use Rattle.std.proofs.Common.{◌≡◌, ℕ, zero, suc, ◌+◌, ◌-◌, ◌*◌, ◌%◌, ◌<◌, true, false, cond, eqb, ltb, List, [], ◌∷◌, map, length, drop, sym, refl, ap, ◌∙◌, subst, inl, inr, mod-lt, eq-zero-or-pos, mul-zero}
 use Rattle.std.specs.List.{range_with_len, AllByRecursion}
 use Rattle.std.proofs.ByRecursion.{All-drop}
-use Rattle.kinds.specs.declared.kind.Kind.{Ghosts}
 use Rattle.kinds.specs.Meaning.{Meaning}
 use Rattle.tables.specs.Program.{Program}
 use Rattle.tables.specs.Slots.{slot_total, program_slots}
@@ -118,7 +117,7 @@ program_within p rounds P f =
       | inr b ↦ slots_within (length p.texts) 0 (slot_total p rounds) P b f
     ]
 
-pub drives_translated : {V : Type 0} {G : Ghosts V} (k : Meaning) (s : held.Sequence V G) (p : Program) (rounds : ℕ) (ns : List ℕ) → Holds s p rounds → drives_so k s ns ≡ drive k p rounds ns
+pub drives_translated : {V : Type 0} (k : Meaning) (s : held.Sequence V) (p : Program) (rounds : ℕ) (ns : List ℕ) → Holds s p rounds → drives_so k s ns ≡ drive k p rounds ns
 drives_translated k s p rounds ns h =
     ap (λ g. drive_on k (with_sections g (sections_of s)) (codes_of s) ns) h.guide
     ∙ ap (λ cs. drive_on k (with_sections (driver p rounds) (sections_of s)) cs ns) h.codes

@@ -1,28 +1,21 @@
 -- One more statement on the way to a label.
-use Rattle.std.proofs.Common.{◌≡◌, ℕ, suc, ◌+◌, ◌-◌, ◌^◌, ◌<◌, ◌≤◌, Bool, true, false, cond, ◌||◌, ltb, List, length, get_or, drop, set, sym, refl, ap, ◌∙◌, inl, inr, arith, get_or-set_other, get_or-set_same}
-use Rattle.std.specs.List.{AllByRecursion}
-use Rattle.states.proofs.Codes.{all_or}
-use Rattle.std.proofs.lemmas.List.{drop_more, drop_all}
-use Rattle.std.proofs.lemmas.Bool.{cases_eq, cond_both, ltb-true, ltb-false}
+use Rattle.std.proofs.Common.{◌≡◌, ℕ, suc, ◌+◌, ◌-◌, ◌^◌, ◌<◌, ◌≤◌, Bool, true, false, ◌||◌, List, [], ◌∷◌, ◌++◌, length, get_or, take, drop, set, replicate, sym, refl, ap, ◌∙◌, inl, inr, subst, append-nil, arith, get_or-set_other, get_or-set_same}
+use Rattle.std.specs.List.{AllByRecursion, list_any}
+use Rattle.std.proofs.ByRecursion.{All-take, All-append}
+use borrow.Rule.Slice.PartMut.{put_mid}
+use Rattle.states.proofs.Codes.{all_or, all_replicate}
+use Rattle.std.proofs.lemmas.List.{drop_more, drop_all, length-drop, length-take-le, get_or_append_left, get_or-append_right, get_or-take, get_or-replicate}
+use Rattle.std.proofs.lemmas.Bool.{cases_eq, cases_lt}
 use Rattle.records.specs.declared.statement.Statement.{Statement}
 use Rattle.records.specs.declared.statement.Statement.TheVariants.{Set, Copy, Sum, Difference, Less, Same, Jump, Branch, Assume, Assert, Init, Destroy, Lock, Unlock, Create, Join}
 use Rattle.tables.specs.Program.{Program}
 use Rattle.sequences.specs.Code.{inner, names, guarded, guards, past, address, address_of}
 use Rattle.sequences.specs.Writes.{width, beyond}
 
--- a label's guard is looked for from statement to statement
-module _ (text : List Statement) (t j : ℕ) (z : Statement) where
-  guarded_more : j < length text → guarded (drop j text) t ≡ (names t (get_or text j z) || guarded (drop (j + 1) text) t)
-  guarded_more l = ap (λ xs. guarded xs t) (drop_more text j z l)
-
-  pub guarded_here : j < length text → names t (get_or text j z) ≡ true → guarded (drop j text) t ≡ true
-  guarded_here l e = guarded_more l ∙ ap (λ b. b || guarded (drop (j + 1) text) t) e
-
-  pub guarded_later : j < length text → names t (get_or text j z) ≡ false → guarded (drop j text) t ≡ guarded (drop (j + 1) text) t
-  guarded_later l e = guarded_more l ∙ ap (λ b. b || guarded (drop (j + 1) text) t) e
-
-pub guarded_never : (text : List Statement) (t j : ℕ) → length text ≤ j → guarded (drop j text) t ≡ false
-guarded_never text t j l = ap (λ xs. guarded xs t) (drop_all j text l)
+-- a label has a guard where some statement names it
+pub any_names : (text : List Statement) (t : ℕ) → list_any (names t) text ≡ guarded text t
+any_names [] t = refl
+any_names (x ∷ xs) t = ap (λ b. names t x || b) (any_names xs t)
 
 -- addresses behind guards and statements, as sums
 pub past_guards : (b : Bool) (t h : ℕ) → past (guards b t) h ≡ beyond b h
@@ -100,14 +93,29 @@ module _ (p : Program) (i : ℕ) (text : List Statement) where
             ∙ ap (λ a. address p i (guarded text) (drop (l + 1) text) (l + 1) a e) (sym (eg ∙ ap (beyond (guarded text (l + 1))) ee));
       }
 
-  pub found_all : (l n h : ℕ) (at : List ℕ) (t : ℕ) → length text ≡ n → n ≡ l → Found l h at → cond (ltb t (n + 1)) (get_or at t 0) h ≡ address_of p i text t
-  found_all l n h at t en el f =
-      cond_both (ltb t (n + 1)) (get_or at t 0) h (λ a. a ≡ address_of p i text t) (λ e. f.known t (let c = ltb-true t (n + 1) e in omega arith))
-      (λ e.
-      let c = ltb-false t (n + 1) e in
-      let m : l + 1 + (t - (l + 1)) ≡ t = omega arith in
-      sym (ap (address_of p i text) (sym m) ∙ f.rest (t - (l + 1)) ∙ address_none l h (t - (l + 1)) (omega arith)))
+  -- the labels behind the statements have the address that is left
+  pub found_all : (l h : ℕ) (at new : List ℕ) → length text ≡ l → l ≤ 255 → length at ≡ 256 → new ≡ take (l + 1) at ++ replicate (256 - (l + 1)) h → Found l h at → (t : ℕ) → t < 256 → get_or new t 0 ≡ address_of p i text t
+  found_all l h at new el few la en f t b =
+      let k : length (take (l + 1) at) ≡ l + 1 = length-take-le (l + 1) at (omega arith) in
+      ap (λ xs. get_or xs t 0) en
+      ∙ elim (cases_lt t (l + 1)) [
+        | inl c ↦ get_or_append_left (take (l + 1) at) (replicate (256 - (l + 1)) h) 0 t (omega arith) ∙ get_or-take (l + 1) at t 0 c ∙ f.known t (omega arith)
+        | inr c ↦
+            let m : l + 1 + (t - (l + 1)) ≡ t = omega arith in
+            get_or-append_right (take (l + 1) at) (replicate (256 - (l + 1)) h) (l + 1) t 0 k c
+            ∙ get_or-replicate (256 - (l + 1)) (t - (l + 1)) h 0 (omega arith)
+            ∙ sym (ap (address_of p i text) (sym m) ∙ f.rest (t - (l + 1)) ∙ address_none l h (t - (l + 1)) (omega arith))
+      ]
 
-pub near_all : (n h : ℕ) (at : List ℕ) → h ≤ 1275 → AllByRecursion (λ a. a ≤ 1275) at → (t : ℕ) → cond (ltb t n) (get_or at t 0) h < 2 ^ 15
-near_all n h at b all t =
-    cond_both (ltb t n) (get_or at t 0) h (λ a. a < 2 ^ 15) (λ _. let c = all_or (λ a. a ≤ 1275) at t 0 (omega arith) all in omega arith) (λ _. omega arith)
+pub near_all : (n m h : ℕ) (at new : List ℕ) → h ≤ 1275 → new ≡ take n at ++ replicate m h → AllByRecursion (λ a. a ≤ 1275) at → (t : ℕ) → get_or new t 0 < 2 ^ 15
+near_all n m h at new b en all t =
+    let P : ℕ → Type 0 = λ a. a ≤ 1275 in
+    let both : AllByRecursion P (take n at ++ replicate m h) = All-append P (take n at) (replicate m h) (All-take P n at all) (all_replicate P m h b) in
+    let c = all_or P new t 0 (omega arith) (subst (AllByRecursion P) (sym en) both) in
+    omega arith
+
+-- a list of 256 that is filled from a place on
+pub filled : (n m h : ℕ) (at ys : List ℕ) → length at ≡ 256 → ys ≡ replicate m h → m ≡ 256 - n → put_mid n (256 - n) at ys ≡ take n at ++ replicate (256 - n) h
+filled n m h at ys l e em =
+    ap (λ zs. take n at ++ (ys ++ zs)) (drop_all (256 - n) (drop n at) (omega (arith, length-drop n at)))
+    ∙ ap (λ zs. take n at ++ zs) (append-nil ys ∙ e ∙ ap (λ k. replicate k h) em)

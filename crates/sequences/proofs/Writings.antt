@@ -1,23 +1,18 @@
 -- One more piece of a section, and of the driver.
-use Rattle.std.proofs.Common.{◌≡◌, ℕ, zero, suc, ◌+◌, ◌-◌, ◌*◌, ◌%◌, ◌<◌, ◌≤◌, Bool, List, [], ◌∷◌, ◌++◌, map, length, get_or, take, drop, sym, refl, ap, ◌∙◌, append_assoc, mul-zero, arith}
-use Rattle.std.specs.List.{range_with_len}
+use Rattle.std.proofs.Common.{◌≡◌, ℕ, zero, suc, ◌+◌, ◌-◌, ◌*◌, ◌%◌, ◌<◌, ◌≤◌, min, List, [], ◌∷◌, ◌++◌, map, length, get_or, take, drop, sym, ap, ◌∙◌, subst, append_assoc, mul-zero, arith}
+use native.Mathlib.Nat.{min-eq_left}
+use Rattle.std.specs.List.{AllByRecursion, range_with_len}
+use Rattle.std.proofs.ByRecursion.{All-get_or}
 use Rattle.std.proofs.lemmas.List.{drop_more, drop_all}
 use Rattle.records.specs.declared.statement.Statement.{Statement}
-use Rattle.records.specs.declared.statement.Statement.TheVariants.{Set, Copy, Sum, Difference, Less, Same, Jump, Branch, Assume, Assert, Init, Destroy, Lock, Unlock, Create, Join}
 use Rattle.tables.specs.Program.{Program}
 use Rattle.sequences.specs.declared.instruction.Instruction.{Instruction}
 use Rattle.sequences.specs.declared.instruction.Instruction.TheVariants as op
-use Rattle.sequences.specs.Code.{at, thread, label, inner, guarded, guards, past, behind, driver_from}
-use Rattle.sequences.specs.Writes.{beyond, label_code, slot_code}
-use Rattle.sequences.proofs.Rooms.{room_more, room_left}
+use Rattle.sequences.specs.declared.instruction.Word.{Word}
+use Rattle.sequences.specs.Code.{at, thread, label, word, inner, guarded, guards, past, behind, driver_from}
+use Rattle.sequences.specs.Writes.{Low, beyond, label_code, slot_code}
+use Rattle.records.proofs.Rooms.{room_more, room_left}
 use Rattle.sequences.proofs.Ways.{past_guards}
-
--- four pieces
-pub room_four : {X : Type 0} (n : ℕ) (old m1 m2 m3 m4 : List X) (a b c d : X) → m1 ≡ take n (old ++ a ∷ []) → m2 ≡ take n (m1 ++ b ∷ []) → m3 ≡ take n (m2 ++ c ∷ []) → m4 ≡ take n (m3 ++ d ∷ []) → m4 ≡ take n (old ++ a ∷ b ∷ c ∷ d ∷ [])
-room_four n old m1 m2 m3 m4 a b c d e1 e2 e3 e4 =
-    let f2 = room_more n old m1 m2 (a ∷ []) (b ∷ []) e1 e2 in
-    let f3 = room_more n old m2 m3 (a ∷ b ∷ []) (c ∷ []) f2 e3 in
-    room_more n old m3 m4 (a ∷ b ∷ c ∷ []) (d ∷ []) f3 e4
 
 -- a HOP, a statement's instructions, and a guard
 pub room_label : {X : Type 0} (n : ℕ) (old m1 m2 m3 : List X) (h : X) (xs gs : List X) → m1 ≡ take n (old ++ h ∷ []) → m2 ≡ take n (m1 ++ xs) → m3 ≡ take n (m2 ++ gs) → m3 ≡ take n (old ++ (h ∷ (xs ++ gs)))
@@ -38,39 +33,19 @@ module _ (p : Program) (i : ℕ) (text : List Statement) (A : ℕ → ℕ) where
       ∙ ap (λ h. op.Hop (thread i) (label l) (at h) ∷ (inner p i A x ++ (guards (g (l + 1)) (l + 1) ++ rest (drop (l + 1) text) (l + 1)))) (past_guards (g (l + 1)) (l + 1) (A (l + 1)))
       ∙ ap (λ xs. op.Hop (thread i) (label l) (at (beyond (g (l + 1)) (A (l + 1)))) ∷ xs) (sym (append_assoc (inner p i A x) (guards (g (l + 1)) (l + 1)) (rest (drop (l + 1) text) (l + 1))))
 
-  pub section_more : (n l : ℕ) (z : Statement) (old new : List Instruction) → l < length text → new ≡ take n (old ++ label_code p i text A l (get_or text l z)) → take n (new ++ rest (drop (l + 1) text) (l + 1)) ≡ take n (old ++ rest (drop l text) l)
+  section_more : (n l : ℕ) (z : Statement) (old new : List Instruction) → l < length text → new ≡ take n (old ++ label_code p i text A l (get_or text l z)) → take n (new ++ rest (drop (l + 1) text) (l + 1)) ≡ take n (old ++ rest (drop l text) l)
   section_more n l z old new b e =
       room_left n old new (label_code p i text A l (get_or text l z)) (rest (drop (l + 1) text) (l + 1)) e ∙ ap (λ xs. take n (old ++ xs)) (sym (label_behind l z b))
 
+  -- the statements as they are read
+  pub section_next : (n l : ℕ) (z : Statement) (own : List Statement) (old new : List Instruction) → own ≡ text → l < length own → AllByRecursion Low text → (Low (get_or own l z) → new ≡ take n (old ++ label_code p i text A l (get_or own l z))) → take n (new ++ rest (drop (l + 1) text) (l + 1)) ≡ take n (old ++ rest (drop l text) l)
+  section_next n l z own old new e b low w =
+      let h : l < length text = subst (λ (xs : List Statement). l < length xs) e b in
+      let there = subst (λ (xs : List Statement). Low (get_or xs l z)) (sym e) (All-get_or Low text l z h low) in
+      section_more n l z old new h (subst (λ (xs : List Statement). new ≡ take n (old ++ label_code p i text A l (get_or xs l z))) e (w there))
+
   pub section_ends : (n l : ℕ) (old new : List Instruction) → length text ≤ l → new ≡ take n (old ++ op.Return ∷ []) → new ≡ take n (old ++ rest (drop l text) l)
   section_ends n l old new b e = e ∙ ap (λ xs. take n (old ++ rest xs l)) (sym (drop_all l text b))
-
--- the same addresses make the same section
-module _ (p : Program) (i : ℕ) (g : ℕ → Bool) (A B : ℕ → ℕ) (same : (t : ℕ) → A t ≡ B t) where
-  inner_same : (x : Statement) → inner p i A x ≡ inner p i B x
-  inner_same (Set d c) = refl
-  inner_same (Copy d a) = refl
-  inner_same (Sum d a b) = refl
-  inner_same (Difference d a b) = refl
-  inner_same (Less d a b) = refl
-  inner_same (Same d a b) = refl
-  inner_same (Jump t) = ap (λ h. op.Jump (at h) ∷ []) (same t.0)
-  inner_same (Branch a t) = ap (λ h. op.Branch a (at h) ∷ []) (same t.0)
-  inner_same (Assume a) = refl
-  inner_same (Assert a) = refl
-  inner_same (Init m) = refl
-  inner_same (Destroy m) = refl
-  inner_same (Lock m) = refl
-  inner_same (Unlock m) = refl
-  inner_same (Create j) = refl
-  inner_same (Join j) = refl
-
-  pub behind_same : (xs : List Statement) (l : ℕ) → behind p i g A xs l ≡ behind p i g B xs l
-  behind_same [] l = refl
-  behind_same (x ∷ xs) l =
-      ap (λ h. op.Hop (thread i) (label l) (at (past (guards (g (suc l)) (suc l)) h)) ∷ (inner p i A x ++ (guards (g (suc l)) (suc l) ++ behind p i g A xs (suc l)))) (same (suc l))
-      ∙ ap (λ ys. op.Hop (thread i) (label l) (at (past (guards (g (suc l)) (suc l)) (B (suc l)))) ∷ (ys ++ (guards (g (suc l)) (suc l) ++ behind p i g A xs (suc l)))) (inner_same x)
-      ∙ ap (λ ys. op.Hop (thread i) (label l) (at (past (guards (g (suc l)) (suc l)) (B (suc l)))) ∷ (inner p i B x ++ (guards (g (suc l)) (suc l) ++ ys))) (behind_same xs (suc l))
 
 module _ (p : Program) (t : ℕ) where
   abbrev pub driver_left : ℕ → ℕ → List Instruction
@@ -99,3 +74,7 @@ module _ (p : Program) (t : ℕ) where
 pub threads_some : (a b q : ℕ) → q < a * b → 0 < b
 threads_some a zero q h = absurd (omega (arith, mul-zero a))
 threads_some a (suc b) q h = omega arith
+
+-- a word whose number is low enough is the one that has it
+pub word_low : (w : Word) (n : ℕ) → w.0 ≡ min n 255 → n ≤ 255 → w ≡ word n
+word_low w n e h = ap word (e ∙ min-eq_left h)

@@ -1,10 +1,11 @@
--- An instruction's act in two parts: the state that it leaves, and where the section goes on.
+-- An instruction's act in three parts: the state that it leaves, whether it counts, and where the section goes on.
 use Rattle.std.specs.Prelude.{ℕ, ◌+◌, Bool, true, false, cond}
+use Rattle.std.specs.declared.ops.ControlFlow.{ControlFlow}
+use Rattle.std.specs.declared.ops.ControlFlow.TheVariants.{Continue, Break}
 use Rattle.sequences.specs.declared.act.Act.{Act}
 use Rattle.sequences.specs.declared.act.Act.TheVariants.{On, Write, Mark, To, Back, Fail, Stop}
-use Rattle.sequences.specs.declared.section.Passage.{Passage}
-use Rattle.sequences.specs.declared.section.Passage.TheVariants.{Go, Over}
 use Rattle.sequences.specs.declared.section.Section.{Section}
+use Rattle.sequences.specs.declared.section.SectionEnd.{SectionEnd}
 use Rattle.sequences.specs.declared.section.SectionEnd.TheVariants as end
 use Rattle.sequences.specs.declared.state.SeqState.{SeqState}
 use Rattle.sequences.specs.Acts.{Called, called}
@@ -19,15 +20,25 @@ performed q i Back = q
 performed q i Fail = q
 performed q i Stop = q
 
+-- whether a statement was carried out
+abbrev pub counts : Act → Bool
+counts (On c) = c
+counts (Write p c) = true
+counts (Mark w v) = true
+counts (To c a) = c
+counts Back = false
+counts Fail = true
+counts Stop = false
+
 -- from the address h
-abbrev pub passage : ℕ → Act → Passage
-passage h (On c) = Go (h + 1) c
-passage h (Write p c) = Go (h + 1) true
-passage h (Mark w v) = Go (h + 1) true
-passage h (To c a) = Go a.0 c
-passage h Back = Over end.Returned false
-passage h Fail = Over end.Failed true
-passage h Stop = Over end.Cut false
+abbrev pub passage : ℕ → Act → ControlFlow SectionEnd ℕ
+passage h (On c) = Continue (h + 1)
+passage h (Write p c) = Continue (h + 1)
+passage h (Mark w v) = Continue (h + 1)
+passage h (To c a) = Continue a.0
+passage h Back = Break end.Returned
+passage h Fail = Break end.Failed
+passage h Stop = Break end.Cut
 
 -- one statement more, if it was completed
 abbrev pub tally : Bool → ℕ → ℕ

@@ -1,10 +1,13 @@
 -- One instruction of the driver: where it leads, and the numbers after it.
 use Rattle.std.specs.Prelude.{ℕ, ◌+◌, ◌-◌, cond, List, ◌==◌}
+use Rattle.std.specs.declared.ops.ControlFlow.{ControlFlow}
+use Rattle.std.specs.declared.ops.ControlFlow.TheVariants.{Continue, Break}
 use Rattle.kinds.specs.Meaning.{Meaning}
+use Rattle.walks.specs.declared.outcome.Ending.{Ending}
 use Rattle.walks.specs.declared.outcome.Ending.TheVariants as ending
 use Rattle.walks.specs.declared.outcome.Outcome.TheVariants.{Open, Ended}
-use Rattle.sequences.specs.declared.drive.Stride.{Stride}
-use Rattle.sequences.specs.declared.drive.Stride.TheVariants.{On, Over}
+use Rattle.reports.specs.declared.report.Turn.{Turn}
+use Rattle.reports.specs.Players.{over}
 use Rattle.sequences.specs.declared.instruction.Instruction.{Instruction}
 use Rattle.sequences.specs.declared.point.SeqPoint.{SeqPoint}
 use Rattle.sequences.specs.declared.section.SectionEnd.{SectionEnd}
@@ -15,23 +18,27 @@ use Rattle.sequences.specs.Drives.{Move, slot, guess, enter, save, finish, stray
 use Rattle.sequences.specs.States.{word, with_word}
 use Rattle.sequences.specs.Words.{active, saved, stop_at}
 
--- whether the driver goes on, and where it is
+-- a turn that waits for a number
+abbrev pub waiting : ℕ → ℕ → Turn
+waiting c b = record { count = c; outcome = Open b }
+
+-- whether the driver goes on, with the latest CALL's count, and where it is
 pub record Strode : Type 0 where
-  pub stride : Stride
+  pub stride : ControlFlow Turn ℕ
   pub point : SeqPoint
 
-abbrev pub strode : Stride → SeqPoint → Strode
+abbrev pub strode : ControlFlow Turn ℕ → SeqPoint → Strode
 strode s p = record { stride = s; point = p }
 
 abbrev pub entered : ℕ → Called → SectionEnd → Strode
-entered h r end.Returned = strode (On r.count) (point (h + 1) r.state)
-entered h r end.Failed = strode (Over r.count (Ended ending.Failed)) (point h r.state)
-entered h r end.Cut = strode (Over r.count (Ended ending.Cut)) (point h r.state)
+entered h r end.Returned = strode (Continue r.count) (point (h + 1) r.state)
+entered h r end.Failed = strode (Break (over r.count ending.Failed)) (point h r.state)
+entered h r end.Cut = strode (Break (over r.count ending.Cut)) (point h r.state)
 
 abbrev pub stride : Meaning → (ℕ → List Instruction) → (h c : ℕ) → SeqState → Move → Strode
-stride k sections h c q (slot i to) = strode (On c) (point (cond (word q (active i) == 0) to (h + 1)) q)
-stride k sections h c q (guess i n) = strode (Over c (Open (n - word q (saved i)))) (point h q)
+stride k sections h c q (slot i to) = strode (Continue c) (point (cond (word q (active i) == 0) to (h + 1)) q)
+stride k sections h c q (guess i n) = strode (Break (waiting c (n - word q (saved i)))) (point h q)
 stride k sections h c q (enter i) = let r = call k i (sections i) q in entered h r r.end
-stride k sections h c q (save i) = strode (On c) (point (h + 1) (with_word q (saved i) (word q stop_at)))
-stride k sections h c q finish = strode (Over c (Ended ending.Full)) (point h q)
-stride k sections h c q stray = strode (Over c (Ended ending.Cut)) (point h q)
+stride k sections h c q (save i) = strode (Continue c) (point (h + 1) (with_word q (saved i) (word q stop_at)))
+stride k sections h c q finish = strode (Break (over c ending.Full)) (point h q)
+stride k sections h c q stray = strode (Break (over c ending.Cut)) (point h q)

@@ -1,14 +1,12 @@
 -- The translation as it is written: piece by piece, into a room of its own.
-use Rattle.std.specs.Prelude.{ℕ, ◌+◌, ◌^◌, ◌<◌, ◌≤◌, Bool, cond, List, [], ◌∷◌, ◌++◌, nat_lt, slice_index}
+use Rattle.std.specs.Prelude.{ℕ, ◌+◌, ◌<◌, ◌≤◌, Bool, cond, List, [], ◌∷◌, ◌++◌, Some, None, Option}
 use Rattle.std.specs.List.{AllByRecursion}
+use Rattle.records.specs.declared.statement.Label.{Label}
 use Rattle.records.specs.declared.statement.Statement.{Statement}
 use Rattle.records.specs.declared.statement.Statement.TheVariants.{Set, Copy, Sum, Difference, Less, Same, Jump, Branch, Assume, Assert, Init, Destroy, Lock, Unlock, Create, Join}
 use Rattle.tables.specs.Program.{Program, size}
-use Rattle.sequences.specs.declared.inner.Inner.{Inner}
-use Rattle.sequences.specs.declared.inner.Inner.TheVariants.{One, Two, Three}
 use Rattle.sequences.specs.declared.instruction.Instruction.{Instruction}
 use Rattle.sequences.specs.declared.instruction.Instruction.TheVariants as op
-use Rattle.sequences.specs.declared.labels.Labels.{Labels}
 use Rattle.sequences.specs.Code.{at, thread, label, inner, guards, guarded}
 
 -- how many instructions a statement has
@@ -34,10 +32,24 @@ width (Join j) = 1
 abbrev pub beyond : Bool → ℕ → ℕ
 beyond g h = cond g (h + 1) h
 
-abbrev pub listed : Inner → List Instruction
-listed (One x) = x ∷ []
-listed (Two x y) = x ∷ y ∷ []
-listed (Three x y z) = x ∷ y ∷ z ∷ []
+-- the label that a jump names
+abbrev pub target : Statement → Option Label
+target (Set d c) = None
+target (Copy d a) = None
+target (Sum d a b) = None
+target (Difference d a b) = None
+target (Less d a b) = None
+target (Same d a b) = None
+target (Jump t) = Some t
+target (Branch a t) = Some t
+target (Assume a) = None
+target (Assert a) = None
+target (Init m) = None
+target (Destroy m) = None
+target (Lock m) = None
+target (Unlock m) = None
+target (Create j) = None
+target (Join j) = None
 
 -- the words that the statement names have numbers below 256
 abbrev pub Low : Statement → Type 0
@@ -62,18 +74,6 @@ Low (Join j) = j.0 < 240
 pub record Translatable (p : Program) : Type 0 where
   pub sizes : (i : ℕ) → size p i ≤ 48
   pub low : AllByRecursion Low p.statements
-
--- a list of at most n items that may grow to n
-pub record Room (n cap len : ℕ) : Type 0 where
-  pub wide : n ≤ cap
-  pub few : len ≤ n
-
--- the address of a label, of those that were found
-abbrev pub address_at : Labels → ℕ → ℕ
-address_at a t = cond (nat_lt t a.known) (slice_index a.at t) a.last
-
-abbrev pub Near : Labels → Type 0
-Near a = (t : ℕ) → address_at a t < 2 ^ 15
 
 -- the HOP of a label: it leads behind the next label's guard
 abbrev pub hop_code : ℕ → List Statement → (A : ℕ → ℕ) → ℕ → Instruction

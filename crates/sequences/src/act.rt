@@ -2,8 +2,8 @@
 ghost use Rattle.std.specs.Prelude.{◌≡◌};
 ghost use Rattle.sequences.specs.Acts.{act as said_act, whole as is_whole, hopping};
 
-use crate::instruction::{Address, Instruction, Word};
-use crate::state::{STOP_AT, SeqState, saved};
+use crate::instruction::{Address, Instruction, STOP_AT, Word};
+use crate::state::SeqState;
 use kinds::Kind;
 use records::statement::{Label, Place, Thread};
 
@@ -30,7 +30,7 @@ fn whole(w: Word) -> bool
 fn hop(state: &SeqState, j: Thread, t: Label, to: Address) -> Act
     ensures { result ≡ hopping state.now j t to }
 {
-    if t.0 < state.word(saved(j)) || state.word(STOP_AT) <= t.0 {
+    if t.0 < state.saved(j) || state.word(STOP_AT) <= t.0 {
         Act::To(false, to)
     } else {
         Act::On(false)
@@ -83,17 +83,17 @@ pub(crate) fn act_of<V: Kind>(state: &SeqState, i: Thread, instruction: Instruct
             Act::Stop
         },
         Instruction::Return => Act::Back,
-        Instruction::Must { w, v } => if state.word(w.0 as usize) == v {
+        Instruction::Must { w, v } => if state.word(w) == v {
             Act::On(false)
         } else {
             Act::Fail
         },
-        Instruction::MustNot { w, v } => if state.word(w.0 as usize) == v {
+        Instruction::MustNot { w, v } => if state.word(w) == v {
             Act::Fail
         } else {
             Act::On(false)
         },
-        Instruction::Need { w, v } => if state.word(w.0 as usize) == v {
+        Instruction::Need { w, v } => if state.word(w) == v {
             Act::On(whole(w))
         } else {
             Act::Stop

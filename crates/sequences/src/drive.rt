@@ -1,29 +1,26 @@
 // The run of the driver: from guess to guess.
 ghost use Rattle.std.specs.Prelude.{◌≡◌, ◌<◌, ◌≤◌, true, length, drop, is_some};
-ghost use Rattle.reports.specs.Players.{with_point};
+ghost use Rattle.reports.specs.Players.{with_point, over};
 ghost use Rattle.sequences.specs.Acts.{call as called_so};
 ghost use Rattle.sequences.specs.Drives.{move, move_of, first_move, proceeds, guessed, turn as turned_so};
 ghost use Rattle.sequences.specs.Passages.{with_state};
 ghost use Rattle.sequences.specs.Sequences.{sections_of, guide_of, instructions, starts};
 ghost use Rattle.sequences.specs.Strides.{strode, entered, stride as strides_so};
 
-use crate::instruction::{Address, Instruction};
+use crate::instruction::{Address, Instruction, STOP_AT, Word};
 use crate::point::SeqPoint;
 use crate::section::{Section, SectionEnd, call_section};
 use crate::sequence::{Part, Sequence};
-use crate::state::{STOP_AT, SeqState, saved};
+use crate::state::SeqState;
 use kinds::Kind;
 use records::lookup::{item_or, part_of};
 use records::statement::Thread;
 use reports::report::Turn;
+use std::ops::ControlFlow;
 use walks::outcome::{Ending, Outcome};
 
-// Whether the driver goes on behind an instruction, and the latest CALL's count.
-#[derive(Clone, Copy)]
-pub enum Stride {
-    On(u8),
-    Over(u8, Outcome),
-}
+// The driver goes on behind an instruction with the latest CALL's count, or the turn is over.
+type Stride = ControlFlow<Turn, u8>;
 
 impl<V: Kind> Sequence<V> {
     // The driver's instructions.
@@ -49,12 +46,7 @@ impl<V: Kind> Sequence<V> {
         ensures value { move_of result ≡ first_move (drop at.0 (guide_of self.now)) }
         ensures below { is_some result ≡ true → at.0 < 257 }
     {
-        let at = at.0 as usize;
-        if at < self.driver.len() {
-            Some(self.driver[at])
-        } else {
-            None
-        }
+        self.driver().get(at.0 as usize).copied()
     }
 
     // Thread `i`'s section, called at a point.
@@ -66,10 +58,10 @@ impl<V: Kind> Sequence<V> {
         match section.end {
             SectionEnd::Returned => {
                 at.at = Address(at.at.0 + 1);
-                Stride::On(section.count)
+                ControlFlow::Continue(section.count)
             }
-            SectionEnd::Failed => Stride::Over(section.count, Outcome::Ended(Ending::Failed)),
-            SectionEnd::Cut => Stride::Over(section.count, Outcome::Ended(Ending::Cut)),
+            SectionEnd::Failed => ControlFlow::Break(Turn::ended(section.count, Ending::Failed)),
+            SectionEnd::Cut => ControlFlow::Break(Turn::ended(section.count, Ending::Cut)),
         }
     }
 
@@ -81,26 +73,29 @@ impl<V: Kind> Sequence<V> {
         let behind = Address(at.at.0 + 1);
         match instruction {
             Instruction::Slot { i, to } => {
-                at.at = if at.state.word(i.0 as usize) == 0 {
+                at.at = if at.state.word(Word::active(i)) == 0 {
                     to
                 } else {
                     behind
                 };
-                Stride::On(count)
+                ControlFlow::Continue(count)
             }
             Instruction::Guess { i, n } => {
-                let bound = n.saturating_sub(at.state.word(saved(i)));
-                Stride::Over(count, Outcome::Open(bound))
+                let bound = n.saturating_sub(at.state.saved(i));
+                ControlFlow::Break(Turn {
+                    count,
+                    outcome: Outcome::Open(bound),
+                })
             }
             Instruction::Call { i } => self.enter(at, i),
             Instruction::Save { i } => {
                 let label = at.state.word(STOP_AT);
-                at.state.set_word(saved(i), label);
+                at.state.save(i, label);
                 at.at = behind;
-                Stride::On(count)
+                ControlFlow::Continue(count)
             }
-            Instruction::End => Stride::Over(count, Outcome::Ended(Ending::Full)),
-            _ => Stride::Over(count, Outcome::Ended(Ending::Cut)),
+            Instruction::End => ControlFlow::Break(Turn::ended(count, Ending::Full)),
+            _ => ControlFlow::Break(Turn::ended(count, Ending::Cut)),
         }
     }
 
@@ -110,7 +105,7 @@ impl<V: Kind> Sequence<V> {
     {
         match self.next(at.at) {
             Some(instruction) => self.obey(at, count, instruction),
-            None => Stride::Over(count, Outcome::Ended(Ending::Cut)),
+            None => ControlFlow::Break(Turn::ended(count, Ending::Cut)),
         }
     }
 
@@ -121,14 +116,11 @@ impl<V: Kind> Sequence<V> {
         let mut count = 0;
         for _step in 0..self.driver.len() {
             match self.stride(at, count) {
-                Stride::On(c) => count = c,
-                Stride::Over(c, outcome) => return Turn { count: c, outcome },
+                ControlFlow::Continue(c) => count = c,
+                ControlFlow::Break(turn) => return turn,
             }
         }
-        Turn {
-            count,
-            outcome: Outcome::Ended(Ending::Cut),
-        }
+        Turn::ended(count, Ending::Cut)
     }
 
     // The number read by GUESS `i n` at a point.
@@ -136,12 +128,9 @@ impl<V: Kind> Sequence<V> {
         requires { at.old.at.0 < 257 }
         ensures { with_point result at.new ≡ guessed V.meaning (instructions self.now) at.old.at.0 i.0 n number at.old.state }
     {
-        let label = at.state.word(saved(i));
+        let label = at.state.saved(i);
         if number > n.saturating_sub(label) {
-            return Turn {
-                count: 0,
-                outcome: Outcome::Ended(Ending::Cut),
-            };
+            return Turn::ended(0, Ending::Cut);
         }
         at.state.set_word(STOP_AT, label + number);
         at.at = Address(at.at.0 + 1);
@@ -154,10 +143,7 @@ impl<V: Kind> Sequence<V> {
     {
         match self.next(at.at) {
             Some(Instruction::Guess { i, n }) => self.guess(at, i, n, number),
-            _ => Turn {
-                count: 0,
-                outcome: Outcome::Ended(Ending::Cut),
-            },
+            _ => Turn::ended(0, Ending::Cut),
         }
     }
 

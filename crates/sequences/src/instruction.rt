@@ -1,5 +1,8 @@
 // The instructions of the sequential program.
-use records::statement::{Label, Place, Thread};
+ghost use Rattle.std.specs.Prelude.{◌≡◌, min};
+ghost use Rattle.sequences.specs.Words.{active as active_word, saved as saved_word, lock as lock_word};
+
+use records::statement::{Label, Mutex, Place, Thread};
 
 // A place in a section or in the driver: how many instructions stand before it.
 #[derive(Clone, Copy)]
@@ -8,6 +11,33 @@ pub struct Address(pub u16);
 // One of the 25 words of the sequential program, by its number (see specs/Words.antt).
 #[derive(Clone, Copy)]
 pub struct Word(pub u8);
+
+// The word that says at which label the thread that runs now is to stop.
+pub const STOP_AT: Word = Word(24);
+
+// No state has a word 255: it stands for the words of threads and mutexes whose numbers are too high for a word.
+impl Word {
+    // The word that says whether thread `i` is active.
+    pub fn active(i: Thread) -> Word
+        ensures { result.0 ≡ active_word i.0 }
+    {
+        Word(i.0)
+    }
+
+    // The word that holds the label at which thread `i` stopped.
+    pub fn saved(i: Thread) -> Word
+        ensures { result.0 ≡ min (saved_word i.0) 255 }
+    {
+        Word(i.0.saturating_add(8))
+    }
+
+    // The word of mutex `m`.
+    pub fn lock(m: Mutex) -> Word
+        ensures { result.0 ≡ min (lock_word m.0) 255 }
+    {
+        Word(m.0.saturating_add(16))
+    }
+}
 
 // The first ten are the statements that stay themselves, with addresses for labels; then those that stand around and in
 // place of the other statements; then the driver's.

@@ -1,37 +1,32 @@
 // Where the labels of a thread's section stand.
-ghost use Rattle.std.specs.Prelude.{◌≡◌, ℕ, ◌+◌, ◌^◌, ◌<◌, ◌≤◌, length};
+ghost use Rattle.std.specs.Prelude.{◌≡◌, ℕ, ◌+◌, ◌^◌, ◌<◌, ◌≤◌, length, slice_index};
 ghost use Rattle.tables.specs.Program.{Program};
-ghost use Rattle.sequences.specs.Code.{names as names_label, guarded as is_guarded, address_of};
-ghost use Rattle.sequences.specs.Writes.{width as width_of, beyond, address_at, Near};
+ghost use Rattle.sequences.specs.Code.{guarded as is_guarded, address_of};
+ghost use Rattle.sequences.specs.Writes.{width as width_of, target as target_of, beyond};
 
 use crate::instruction::Address;
 use records::statement::{Label, Statement};
 
-// Whether a statement is a jump to the label `t`.
-fn names(x: Statement, t: u8) -> bool
-    ensures { result ≡ names_label t x }
+// The label that a jump names.
+fn target(x: Statement) -> Option<Label>
+    ensures { result ≡ target_of x }
 {
     match x {
-        Statement::Jump { t: u } => u.0 == t,
-        Statement::Branch { a: _, t: u } => u.0 == t,
-        _ => false,
+        Statement::Jump { t } => Some(t),
+        Statement::Branch { a: _, t } => Some(t),
+        _ => None,
     }
 }
 
 // Whether the label `t` has a guard: some jump of the thread names it.
-pub(crate) fn guarded(text: &[Statement], t: u8) -> bool
-    ensures { result ≡ is_guarded text.now t }
+fn guarded(text: &[Statement], t: Label) -> bool
+    ensures { result ≡ is_guarded text.now t.0 }
 {
-    for j in 0..text.len() {
-        if names(text[j], t) {
-            return true;
-        }
-    }
-    false
+    text.iter().any(|x| target(*x) == Some(t))
 }
 
 // How many instructions a statement has.
-pub(crate) fn width(x: Statement) -> u16
+fn width(x: Statement) -> u16
     ensures value { result ≡ width_of x }
     ensures few { result ≤ 3 }
 {
@@ -43,52 +38,58 @@ pub(crate) fn width(x: Statement) -> u16
 }
 
 // The address behind the guard that a label may have at an address.
-pub(crate) fn behind_guard(text: &[Statement], t: u8, at: u16) -> u16
+fn behind_guard(text: &[Statement], t: Label, at: u16) -> u16
     requires { at < 2 ^ 15 }
-    ensures value { result ≡ beyond (is_guarded text.now t) at }
+    ensures value { result ≡ beyond (is_guarded text.now t.0) at }
     ensures near { result ≤ at + 1 }
 {
     if guarded(text, t) { at + 1 } else { at }
 }
 
-// Where the guards of the first labels stand, and the address that every label behind them has.
-#[derive(Clone, Copy)]
-pub struct Labels {
-    pub at: [u16; 256],
-    pub known: usize,
-    pub last: u16,
+// A thread's statements, and where the guard of each label is to stand in its section.
+#[derive(Drop)]
+pub(crate) struct Layout<'a> {
+    pub(crate) text: &'a [Statement],
+    at: [u16; 256],
+    ghost found: { (p : Program) (i t : ℕ) → t < 256 → slice_index at t ≡ address_of p i text.now t },
+    ghost near: { (t : ℕ) → slice_index at t < 2 ^ 15 },
 }
 
-impl Labels {
+impl<'a> Layout<'a> {
+    // Goes through the statements; all labels behind them have one address.
+    pub(crate) fn new(text: &'a [Statement]) -> Layout<'a>
+        requires { length text.now ≤ 255 }
+        ensures { result.text.now ≡ text.now }
+    {
+        let mut at = [0; 256];
+        let mut behind = 0;
+        for (l, x) in text.iter().enumerate() {
+            let end = behind + 1 + width(*x);
+            at[l + 1] = end;
+            behind = behind_guard(text, Label(l as u8 + 1), end);
+        }
+        at[text.len() + 1..].fill(behind);
+        Layout { text, at }
+    }
+
     // Where the guard of a label stands.
     pub(crate) fn address(&self, t: Label) -> Address
-        ensures { result.0 ≡ address_at self.now t.0 }
+        ensures value { (p : Program) (i : ℕ) → result.0 ≡ address_of p i self.now.text.now t.0 }
+        ensures near { result.0 < 2 ^ 15 }
     {
-        let t = t.0 as usize;
-        if t < self.known {
-            Address(self.at[t])
-        } else {
-            Address(self.last)
-        }
+        Address(self.at[t.0 as usize])
     }
-}
 
-// Goes through a thread's statements and notes where each label's guard stands.
-pub(crate) fn find_labels(text: &[Statement]) -> Labels
-    requires { length text.now ≤ 255 }
-    ensures value { (p : Program) (i t : ℕ) → address_at result t ≡ address_of p i text.now t }
-    ensures near { Near result }
-{
-    let mut at = [0; 256];
-    let mut behind = 0;
-    for l in 0..text.len() {
-        let end = behind + 1 + width(text[l]);
-        at[l + 1] = end;
-        behind = behind_guard(text, l as u8 + 1, end);
+    pub(crate) fn guarded(&self, t: Label) -> bool
+        ensures { result ≡ is_guarded self.now.text.now t.0 }
+    {
+        guarded(self.text, t)
     }
-    Labels {
-        at,
-        known: text.len() + 1,
-        last: behind,
+
+    // The address behind the guard that a label may have.
+    pub(crate) fn behind(&self, t: Label) -> Address
+        ensures { (p : Program) (i : ℕ) → result.0 ≡ beyond (is_guarded self.now.text.now t.0) (address_of p i self.now.text.now t.0) }
+    {
+        Address(behind_guard(self.text, t, self.address(t).0))
     }
 }

@@ -3,9 +3,7 @@
 
 pub mod act;
 pub mod drive;
-mod emit;
 pub mod guesses;
-mod inner;
 pub mod instruction;
 mod labels;
 pub mod point;

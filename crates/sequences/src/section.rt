@@ -1,14 +1,17 @@
 // The run of a section.
 ghost use Rattle.std.specs.Prelude.{◌≡◌, ◌^◌, ◌<◌, ◌≤◌, length};
 ghost use Rattle.sequences.specs.Acts.{call};
-ghost use Rattle.sequences.specs.Passages.{performed, passage, tally as tallied, with_state};
+ghost use Rattle.sequences.specs.Passages.{performed, counts as counted, passage, tally as tallied, with_state};
 
 use crate::act::{Act, act_of};
 use crate::instruction::Instruction;
 use crate::state::SeqState;
 use kinds::Kind;
 use records::statement::Thread;
+use std::ops::ControlFlow;
 
+// Apart from a slot's end: a section that returned may have carried out fewer statements than its thread has left, and the
+// laws that tie the two read each by its own name.
 #[derive(Clone, Copy)]
 pub enum SectionEnd {
     Returned,
@@ -24,37 +27,40 @@ pub struct Section {
     pub count: u8,
 }
 
-// Where a section goes on, or how it is over, and whether a statement was carried out.
-#[derive(Clone, Copy)]
-pub enum Passage {
-    Go(usize, bool),
-    Over(SectionEnd, bool),
-}
-
 // Thread `i` does what an instruction comes to.
 fn perform(state: &mut SeqState, i: Thread, act: Act)
     ensures { state.new ≡ performed state.old i.0 act }
 {
     match act {
         Act::Write(p, c) => state.put(i, p, c),
-        Act::Mark(w, v) => state.set_word(w.0 as usize, v),
+        Act::Mark(w, v) => state.set_word(w, v),
         _ => (),
     }
 }
 
-// Where a section is behind the instruction at an address.
-fn behind(at: usize, act: Act) -> Passage
+// Whether a statement was carried out.
+fn counts(act: Act) -> bool
+    ensures { result ≡ counted act }
+{
+    match act {
+        Act::On(counts) => counts,
+        Act::To(counts, _) => counts,
+        Act::Write(_, _) | Act::Mark(_, _) | Act::Fail => true,
+        Act::Back | Act::Stop => false,
+    }
+}
+
+// Where a section goes on behind the instruction at an address, or how it ends.
+fn behind(at: usize, act: Act) -> ControlFlow<SectionEnd, usize>
     requires { at < 2 ^ 32 }
     ensures { result ≡ passage at act }
 {
     match act {
-        Act::On(counts) => Passage::Go(at + 1, counts),
-        Act::Write(_, _) => Passage::Go(at + 1, true),
-        Act::Mark(_, _) => Passage::Go(at + 1, true),
-        Act::To(counts, to) => Passage::Go(to.0 as usize, counts),
-        Act::Back => Passage::Over(SectionEnd::Returned, false),
-        Act::Fail => Passage::Over(SectionEnd::Failed, true),
-        Act::Stop => Passage::Over(SectionEnd::Cut, false),
+        Act::On(_) | Act::Write(_, _) | Act::Mark(_, _) => ControlFlow::Continue(at + 1),
+        Act::To(_, to) => ControlFlow::Continue(to.0 as usize),
+        Act::Back => ControlFlow::Break(SectionEnd::Returned),
+        Act::Fail => ControlFlow::Break(SectionEnd::Failed),
+        Act::Stop => ControlFlow::Break(SectionEnd::Cut),
     }
 }
 
@@ -83,17 +89,10 @@ pub(crate) fn call_section<V: Kind>(
         }
         let act = act_of::<V>(state, i, code[at]);
         perform(state, i, act);
+        count = tally(counts(act), count);
         match behind(at, act) {
-            Passage::Go(to, counts) => {
-                at = to;
-                count = tally(counts, count);
-            }
-            Passage::Over(end, counts) => {
-                return Section {
-                    end,
-                    count: tally(counts, count),
-                };
-            }
+            ControlFlow::Continue(to) => at = to,
+            ControlFlow::Break(end) => return Section { end, count },
         }
     }
     Section {

@@ -1,8 +1,7 @@
 // The sequential program of a table. Its memory is reserved when it is made, so that no later call wants any.
-ghost use Rattle.std.specs.Prelude.{◌≤◌, vec_len, vec_capacity};
-
 use crate::instruction::Instruction;
 use kinds::Kind;
+use records::reserved::Reserved;
 use std::marker::PhantomData;
 
 // Which instructions are a section: `size` of them from `first` on.
@@ -12,18 +11,17 @@ pub struct Part {
     pub size: u8,
 }
 
+// The driver has room for eight rounds of eight threads, and the sections for eight threads of 48 statements.
+pub(crate) type Driver = Reserved<Instruction, 257>;
+
+pub(crate) type Sections = Reserved<Instruction, 1936>;
+
 // The initial codes of the cells, the driver, and the sections of all threads one behind the other.
 #[derive(Drop)]
 pub struct Sequence<V: Kind> {
-    pub(crate) cells: Vec<u32>,
-    pub(crate) driver: Vec<Instruction>,
-    pub(crate) sections: Vec<Instruction>,
-    pub(crate) parts: Vec<Part>,
+    pub(crate) cells: Reserved<u32, 16>,
+    pub(crate) driver: Driver,
+    pub(crate) sections: Sections,
+    pub(crate) parts: Reserved<Part, 8>,
     pub(crate) kind: PhantomData<V>,
-    ghost cell_room: { 16 ≤ vec_capacity cells },
-    ghost driver_room: { 257 ≤ vec_capacity driver },
-    ghost section_room: { 1936 ≤ vec_capacity sections },
-    ghost part_room: { 8 ≤ vec_capacity parts },
-    ghost cells_few: { vec_len cells ≤ 16 },
-    ghost driver_few: { vec_len driver ≤ 257 },
 }

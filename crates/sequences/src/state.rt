@@ -3,20 +3,11 @@ ghost use Rattle.std.specs.Prelude.{◌≡◌, ◌≤◌, length, slice_index_or
 ghost use Rattle.sequences.specs.States.{word as word_of, with_word, value as value_of, put as put_by, locals_of, with_locals, begun};
 ghost use Rattle.sequences.specs.Words.{saved as saved_word};
 
+use crate::instruction::Word;
 use kinds::Kind;
 use records::lookup::{item_or, set_item};
 use records::statement::{Place, Thread};
 use states::state::initial_cells;
-
-// The word that says at which label the thread that runs now is to stop.
-pub const STOP_AT: usize = 24;
-
-// The word that holds the label at which thread `i` stopped.
-pub fn saved(i: Thread) -> usize
-    ensures { result ≡ saved_word i.0 }
-{
-    8 + i.0 as usize
-}
 
 #[derive(Clone, Copy)]
 pub struct SeqState {
@@ -40,35 +31,47 @@ impl SeqState {
         }
     }
 
-    // A word by its number, and 0 where there is none.
-    pub fn word(&self, w: usize) -> u8
-        ensures { result ≡ word_of self.now w }
+    // A word, and 0 where there is none.
+    pub fn word(&self, w: Word) -> u8
+        ensures { result ≡ word_of self.now w.0 }
     {
-        if w < 25 { self.words[w] } else { 0 }
+        item_or(&self.words, w.0, 0)
     }
 
-    pub fn set_word(&mut self, w: usize, v: u8)
-        ensures { self.new ≡ with_word self.old w v }
+    pub fn set_word(&mut self, w: Word, v: u8)
+        ensures { self.new ≡ with_word self.old w.0 v }
     {
-        if w < 25 {
-            self.words[w] = v;
-        }
+        set_item(&mut self.words, w.0, v);
+    }
+
+    // The label at which thread `i` stopped.
+    pub fn saved(&self, i: Thread) -> u8
+        ensures { result ≡ word_of self.now (saved_word i.0) }
+    {
+        self.word(Word::saved(i))
+    }
+
+    // Thread `i` stopped at a label.
+    pub fn save(&mut self, i: Thread, label: u8)
+        ensures { self.new ≡ with_word self.old (saved_word i.0) label }
+    {
+        self.set_word(Word::saved(i), label);
     }
 
     // The code in local cell `n` of thread `i`, and the fresh code where there is none.
     fn local<V: Kind>(&self, i: Thread, n: u8) -> u32
         ensures { result ≡ slice_index_or (locals_of self.now i.0) n V.meaning.fresh }
     {
-        if i.0 < 8 {
-            item_or(&self.locals[i.0 as usize], n, V::FRESH)
-        } else {
-            V::FRESH
+        match self.locals.get(i.0 as usize) {
+            Some(cells) => item_or(cells, n, V::FRESH),
+            None => V::FRESH,
         }
     }
 
     fn set_local(&mut self, i: Thread, n: u8, c: u32)
         ensures { self.new ≡ with_locals self.old i.0 (slice_set (locals_of self.old i.0) n c) }
     {
+        // No `get_mut`: its contract says nothing of what the slice ends as.
         if i.0 < 8 {
             set_item(&mut self.locals[i.0 as usize], n, c);
         }

@@ -1,33 +1,19 @@
 // The sequential program of a table.
-ghost use Rattle.std.specs.Prelude.{◌≡◌, ℕ, ◌<◌, ◌≤◌, [], length, IfOk, vec_len, vec_capacity};
+ghost use Rattle.std.specs.Prelude.{◌≡◌, ℕ, ◌<◌, ◌≤◌, [], length, IfOk};
 ghost use Rattle.tables.specs.Tables.{view};
 ghost use Rattle.tables.specs.WellFormed.{WellFormed};
 ghost use Rattle.sequences.specs.Code.{section as section_code};
 ghost use Rattle.sequences.specs.Sequences.{Holds, codes_of, guide_of, sections_of, parts_in, part_between};
 ghost use Rattle.sequences.specs.Writes.{Translatable};
 
-use crate::instruction::Instruction;
-use crate::sequence::{Part, Sequence};
+use crate::sequence::{Part, Sections, Sequence};
 use crate::writes::{write_driver, write_section};
 use kinds::Kind;
+use records::reserved::Reserved;
 use records::statement::Thread;
 use std::alloc::{AllocError, Global};
 use std::marker::PhantomData;
 use tables::table::Table;
-
-// The initial codes of the cells in the place of the old ones.
-fn write_codes(cells: &mut Vec<u32>, codes: &[u32])
-    requires wide { 16 ≤ vec_capacity cells.old }
-    requires few { length codes.now ≤ 16 }
-    ensures items { cells.new.items ≡ codes.now }
-    ensures wide { 16 ≤ vec_capacity cells.new }
-    ensures few { vec_len cells.new ≤ 16 }
-{
-    cells.clear();
-    for j in 0..codes.len() {
-        cells.push_reserved(codes[j]);
-    }
-}
 
 // The instructions between two places.
 fn between(first: usize, end: usize) -> Part
@@ -40,19 +26,15 @@ fn between(first: usize, end: usize) -> Part
 }
 
 // The sections of all threads one behind the other in the place of the old ones, and which part each is.
-fn write_sections(sections: &mut Vec<Instruction>, parts: &mut Vec<Part>, table: &Table)
-    requires sections { 1936 ≤ vec_capacity sections.old }
-    requires parts { 8 ≤ vec_capacity parts.old }
-    ensures value { Translatable (view table.now) → (i : ℕ) → i < length (view table.now).texts → parts_in sections.new.items parts.new.items i ≡ section_code (view table.now) i }
-    ensures sections { 1936 ≤ vec_capacity sections.new }
-    ensures parts { 8 ≤ vec_capacity parts.new }
+fn write_sections(sections: &mut Sections, parts: &mut Reserved<Part, 8>, table: &Table)
+    ensures { Translatable (view table.now) → (i : ℕ) → i < length (view table.now).texts → parts_in sections.new parts.new i ≡ section_code (view table.now) i }
 {
     sections.clear();
     parts.clear();
     for i in 0..table.threads() {
         let first = sections.len();
         write_section(sections, table, Thread(i));
-        parts.push_reserved(between(first, sections.len()));
+        parts.push(between(first, sections.len()));
     }
 }
 
@@ -61,15 +43,11 @@ impl<V: Kind> Sequence<V> {
     pub fn new(heap: Global) -> Result<Sequence<V>, AllocError>
         ensures { IfOk result (λ s. (codes_of s ≡ []) × (guide_of s ≡ []) × ((i : ℕ) → sections_of s i ≡ [])) }
     {
-        let cells = Vec::with_capacity(heap, 16)?;
-        let driver = Vec::with_capacity(heap, 257)?;
-        let sections = Vec::with_capacity(heap, 1936)?;
-        let parts = Vec::with_capacity(heap, 8)?;
         Ok(Sequence {
-            cells,
-            driver,
-            sections,
-            parts,
+            cells: Reserved::new(heap)?,
+            driver: Reserved::new(heap)?,
+            sections: Reserved::new(heap)?,
+            parts: Reserved::new(heap)?,
             kind: PhantomData,
         })
     }
@@ -79,7 +57,8 @@ impl<V: Kind> Sequence<V> {
         ensures holds { Translatable (view table.now) → rounds ≤ 8 → Holds self.new (view table.now) rounds }
         ensures well { WellFormed V.meaning (view table.now) → Translatable (view table.now) }
     {
-        write_codes(&mut self.cells, table.cells());
+        self.cells.clear();
+        self.cells.extend_from_slice(table.cells());
         self.driver.clear();
         write_driver(&mut self.driver, table, rounds);
         write_sections(&mut self.sections, &mut self.parts, table);

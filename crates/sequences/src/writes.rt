@@ -1,106 +1,143 @@
 // The translation: the section of a thread, and the driver.
-ghost use Rattle.std.specs.Prelude.{◌≡◌, ◌%◌, ◌<◌, ◌≤◌, ◌++◌, length, take, vec_len, vec_capacity};
+ghost use Rattle.std.specs.Prelude.{◌≡◌, ◌%◌, ◌<◌, ◌≤◌, ◌++◌, length, take};
 ghost use Rattle.std.specs.List.{AllByRecursion};
 ghost use Rattle.tables.specs.Program.{own};
 ghost use Rattle.tables.specs.Slots.{slot_total};
 ghost use Rattle.tables.specs.Tables.{view};
-ghost use Rattle.sequences.specs.Code.{guards, guarded as is_guarded, section as section_code, driver as driver_code};
-ghost use Rattle.sequences.specs.Writes.{Low, Near, Room, address_at, hop_code, label_code, slot_code};
+ghost use Rattle.sequences.specs.Code.{inner, address_in, section as section_code, driver as driver_code};
+ghost use Rattle.sequences.specs.Writes.{Low, hop_code, label_code, slot_code};
 
-use crate::emit::{emit, emit_inner};
-use crate::inner::inner_of;
-use crate::instruction::{Address, Instruction};
-use crate::labels::{Labels, behind_guard, find_labels, guarded};
+use crate::instruction::{Address, Instruction, Word};
+use crate::labels::Layout;
+use crate::sequence::{Driver, Sections};
 use records::statement::{Label, Statement, Thread};
 use tables::table::Table;
 
-// The HOP of the label `l`: it leads behind the next label's guard.
-fn hop(text: &[Statement], labels: &Labels, i: Thread, l: u8) -> Instruction
-    requires label { l < 255 }
-    requires near { Near labels.now }
-    ensures { result ≡ hop_code i.0 text.now (address_at labels.now) l }
-{
-    let end = labels.address(Label(l + 1));
-    Instruction::Hop {
-        i,
-        t: Label(l),
-        to: Address(behind_guard(text, l + 1, end.0)),
-    }
-}
-
-// The guard of a label, if it has one.
-fn write_guard(code: &mut Vec<Instruction>, text: &[Statement], t: u8)
-    requires { Room 1936 (vec_capacity code.old) (vec_len code.old) }
-    ensures items { code.new.items ≡ take 1936 (code.old.items ++ guards (is_guarded text.now t) t) }
-    ensures room { Room 1936 (vec_capacity code.new) (vec_len code.new) }
-{
-    if guarded(text, t) {
-        emit(code, 1936, Instruction::Guard { t: Label(t) });
-    }
-}
-
-// The label `l` of thread `i`'s section, whose statement is `x`.
-fn write_label(
-    code: &mut Vec<Instruction>,
-    table: &Table,
-    text: &[Statement],
-    labels: &Labels,
+// Thread `i` of a table, with the layout of its section.
+#[derive(Drop)]
+struct Writer<'a> {
+    table: &'a Table,
     i: Thread,
-    l: u8,
-    x: Statement,
-)
-    requires thread { i.0 < 8 }
-    requires label { l < 255 }
-    requires near { Near labels.now }
-    requires room { Room 1936 (vec_capacity code.old) (vec_len code.old) }
-    ensures items { Low x → code.new.items ≡ take 1936 (code.old.items ++ label_code (view table.now) i.0 text.now (address_at labels.now) l x) }
-    ensures room { Room 1936 (vec_capacity code.new) (vec_len code.new) }
-{
-    emit(code, 1936, hop(text, labels, i, l));
-    emit_inner(code, 1936, inner_of(table, labels, i, x));
-    write_guard(code, text, l + 1);
+    layout: Layout<'a>,
+    ghost thread: { i.0 < 8 },
+    ghost text: { layout.text.now ≡ own (view table.now) i.0 },
+}
+
+impl<'a> Writer<'a> {
+    // The HOP of the label `l`: it leads behind the next label's guard.
+    fn hop(&self, l: u8) -> Instruction
+        requires { l < 255 }
+        ensures { result ≡ hop_code self.now.i.0 (own (view self.now.table.now) self.now.i.0) (address_in (view self.now.table.now) self.now.i.0) l }
+    {
+        Instruction::Hop {
+            i: self.i,
+            t: Label(l),
+            to: self.layout.behind(Label(l + 1)),
+        }
+    }
+
+    // The instructions of a statement.
+    fn write_statement(&self, code: &mut Sections, x: Statement)
+        ensures { Low x → code.new ≡ take 1936 (code.old ++ inner (view self.now.table.now) self.now.i.0 (address_in (view self.now.table.now) self.now.i.0) x) }
+    {
+        match x {
+            Statement::Set { d, c } => code.push(Instruction::Set { d, c }),
+            Statement::Copy { d, a } => code.push(Instruction::Copy { d, a }),
+            Statement::Sum { d, a, b } => code.push(Instruction::Sum { d, a, b }),
+            Statement::Difference { d, a, b } => code.push(Instruction::Difference { d, a, b }),
+            Statement::Less { d, a, b } => code.push(Instruction::Less { d, a, b }),
+            Statement::Same { d, a, b } => code.push(Instruction::Same { d, a, b }),
+            Statement::Jump { t } => code.push(Instruction::Jump {
+                to: self.layout.address(t),
+            }),
+            Statement::Branch { a, t } => code.push(Instruction::Branch {
+                a,
+                to: self.layout.address(t),
+            }),
+            Statement::Assume { a } => code.push(Instruction::Assume { a }),
+            Statement::Assert { a } => code.push(Instruction::Assert { a }),
+            Statement::Init { m } => code.push(Instruction::Put {
+                w: Word::lock(m),
+                v: 0,
+            }),
+            Statement::Destroy { m } => code.push(Instruction::Put {
+                w: Word::lock(m),
+                v: 1,
+            }),
+            Statement::Lock { m } => {
+                let w = Word::lock(m);
+                code.extend_from_slice(&[
+                    Instruction::MustNot { w, v: 1 },
+                    Instruction::Need { w, v: 0 },
+                    Instruction::Put { w, v: 2 + self.i.0 },
+                ]);
+            }
+            Statement::Unlock { m } => {
+                let w = Word::lock(m);
+                code.extend_from_slice(&[
+                    Instruction::Must { w, v: 2 + self.i.0 },
+                    Instruction::Put { w, v: 0 },
+                ]);
+            }
+            Statement::Create { j } => code.push(Instruction::Put {
+                w: Word::active(j),
+                v: 1,
+            }),
+            Statement::Join { j } => code.push(Instruction::Need {
+                w: Word::saved(j),
+                v: self.table.size(j),
+            }),
+        }
+    }
+
+    // The label `l`, whose statement is `x`, with the guard of the next label, if that has one.
+    fn write_label(&self, code: &mut Sections, l: u8, x: Statement)
+        requires { l < 255 }
+        ensures { Low x → code.new ≡ take 1936 (code.old ++ label_code (view self.now.table.now) self.now.i.0 (own (view self.now.table.now) self.now.i.0) (address_in (view self.now.table.now) self.now.i.0) l x) }
+    {
+        code.push(self.hop(l));
+        self.write_statement(code, x);
+        let t = Label(l + 1);
+        if self.layout.guarded(t) {
+            code.push(Instruction::Guard { t });
+        }
+    }
 }
 
 // Thread `i`'s section.
-pub(crate) fn write_section(code: &mut Vec<Instruction>, table: &Table, i: Thread)
-    requires thread { i.0 < 8 }
-    requires room { Room 1936 (vec_capacity code.old) (vec_len code.old) }
-    ensures items { AllByRecursion Low (own (view table.now) i.0) → code.new.items ≡ take 1936 (code.old.items ++ section_code (view table.now) i.0) }
-    ensures room { Room 1936 (vec_capacity code.new) (vec_len code.new) }
+pub(crate) fn write_section(code: &mut Sections, table: &Table, i: Thread)
+    requires { i.0 < 8 }
+    ensures { AllByRecursion Low (own (view table.now) i.0) → code.new ≡ take 1936 (code.old ++ section_code (view table.now) i.0) }
 {
     let text = table.statements_of(i);
-    let labels = find_labels(text);
-    for l in 0..text.len() {
-        write_label(code, table, text, &labels, i, l as u8, text[l]);
+    let writer = Writer {
+        table,
+        i,
+        layout: Layout::new(text),
+    };
+    for (l, x) in text.iter().enumerate() {
+        writer.write_label(code, l as u8, *x);
     }
-    emit(code, 1936, Instruction::Return);
+    code.push(Instruction::Return);
 }
 
 // Thread `i`'s slot, at an address of the driver.
-fn write_slot(driver: &mut Vec<Instruction>, table: &Table, i: Thread, at: u16)
-    requires at { at ≤ 8192 }
-    requires room { Room 257 (vec_capacity driver.old) (vec_len driver.old) }
-    ensures items { driver.new.items ≡ take 257 (driver.old.items ++ slot_code (view table.now) i.0 at) }
-    ensures room { Room 257 (vec_capacity driver.new) (vec_len driver.new) }
+fn write_slot(driver: &mut Driver, table: &Table, i: Thread, at: u16)
+    requires { at ≤ 8192 }
+    ensures { driver.new ≡ take 257 (driver.old ++ slot_code (view table.now) i.0 at) }
 {
-    emit(
-        driver,
-        257,
+    driver.extend_from_slice(&[
         Instruction::Slot {
             i,
             to: Address(4 + at),
         },
-    );
-    emit(
-        driver,
-        257,
         Instruction::Guess {
             i,
             n: table.size(i),
         },
-    );
-    emit(driver, 257, Instruction::Call { i });
-    emit(driver, 257, Instruction::Save { i });
+        Instruction::Call { i },
+        Instruction::Save { i },
+    ]);
 }
 
 // How many slots so many rounds have.
@@ -120,13 +157,11 @@ fn thread_at(table: &Table, q: u16) -> Thread
 }
 
 // The driver of so many rounds.
-pub(crate) fn write_driver(driver: &mut Vec<Instruction>, table: &Table, rounds: u8)
-    requires { Room 257 (vec_capacity driver.old) (vec_len driver.old) }
-    ensures items { driver.new.items ≡ take 257 (driver.old.items ++ driver_code (view table.now) rounds) }
-    ensures room { Room 257 (vec_capacity driver.new) (vec_len driver.new) }
+pub(crate) fn write_driver(driver: &mut Driver, table: &Table, rounds: u8)
+    ensures { driver.new ≡ take 257 (driver.old ++ driver_code (view table.now) rounds) }
 {
     for q in 0..slots(table, rounds) {
         write_slot(driver, table, thread_at(table, q), 4 * q);
     }
-    emit(driver, 257, Instruction::End);
+    driver.push(Instruction::End);
 }

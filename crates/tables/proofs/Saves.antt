@@ -1,17 +1,15 @@
 -- The records of a program, one after another.
-use Rattle.std.proofs.Common.{◌≡◌, ℕ, suc, ◌+◌, ◌*◌, ◌<◌, ◌≤◌, leb, List, [], ◌∷◌, ◌++◌, map, length, get_or, take, drop, Ok, Err, sym, refl, ap, ◌∙◌, append_assoc, arith, length-append}
+use Rattle.std.proofs.Common.{◌≡◌, ℕ, suc, ◌+◌, ◌*◌, ◌<◌, ◌≤◌, List, [], ◌∷◌, ◌++◌, map, length, get_or, take, drop, sym, refl, ap, ◌∙◌, append_assoc, arith, length-append}
 use lib.ListN.{length-map}
 use Rattle.std.specs.List.{AllByRecursion}
 use Rattle.std.proofs.lemmas.List.{drop_more, drop_all}
-use Rattle.std.proofs.lemmas.Bool.{lt-leb, le-leb, cond-true, cond-false}
 use Rattle.records.specs.declared.statement.Statement.{Statement}
 use Rattle.records.specs.declared.statement.Statement.TheVariants.{Set, Copy, Sum, Difference, Less, Same, Jump, Branch, Assume, Assert, Init, Destroy, Lock, Unlock, Create, Join}
 use Rattle.tables.specs.declared.text.ThreadText.{ThreadText}
 use Rattle.records.specs.Rows.{statement_row}
 use Rattle.tables.specs.Encoded.{cell_row, cell_rows, thread_row, thread_rows, flat, cell_bytes, own_bytes, own_thread_bytes, thread_bytes, header_row, encoded}
-use Rattle.records.specs.declared.refusal.Refusal.TheVariants.{BufferShort}
 use Rattle.tables.specs.Program.{Program}
-use Rattle.records.specs.Wrote.{wrote, counted, filled}
+use Rattle.records.specs.Wrote.{wrote}
 use Rattle.records.proofs.Writes.{wrote_more, both}
 
 pub cells_more : (ns : List ℕ) (i n : ℕ) (r : List ℕ) → i < length ns → r ≡ cell_row i (get_or ns i n) → cell_bytes i ns ≡ r ++ cell_bytes (i + 1) ns
@@ -116,14 +114,3 @@ module _ (byte : ℕ) (p : Program) (out out₁ out₂ out₃ : List ℕ) (at ne
       let m = wrote_more out 0 (hd ++ cs) ts f in
       let z : next ≡ 0 + length (hd ++ cs) = omega arith in
       cc
-
-pub short : (out bs : List ℕ) (n : ℕ) → n ≡ length bs → length out < n → (Err BufferShort ≡ counted out bs) × (out ≡ filled out bs)
-short out bs n e h =
-    let l = lt-leb (length bs) (length out) (omega arith) in
-    (sym (cond-false (leb (length bs) (length out)) (Ok (length bs)) (Err BufferShort) l), sym (cond-false (leb (length bs) (length out)) (bs ++ drop (length bs) out) out l))
-
-pub enough : (out bs : List ℕ) (n : ℕ) → n ≡ length bs → n ≤ length out → (Ok n ≡ counted out bs) × (wrote out 0 bs ≡ filled out bs)
-enough out bs n e h =
-    let l = le-leb (length bs) (length out) (omega arith) in
-    let z : 0 + length bs ≡ length bs = omega arith in
-    (ap (λ m. Ok m) e ∙ sym (cond-true (leb (length bs) (length out)) (Ok (length bs)) (Err BufferShort) l), ap (λ m. bs ++ drop m out) z ∙ sym (cond-true (leb (length bs) (length out)) (bs ++ drop (length bs) out) out l))

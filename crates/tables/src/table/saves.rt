@@ -11,7 +11,7 @@ use crate::table::Table;
 use crate::text::ThreadText;
 use kinds::Kind;
 use records::refusal::Refusal;
-use records::row::{Mark, put, statement_row};
+use records::row::{Mark, put, room_for, statement_row};
 use records::statement::Statement;
 
 // Of the statements that are left, those of a text, and those behind them.
@@ -126,9 +126,7 @@ impl Table {
         ensures again { WellFormed V.meaning (view self.now) → asked V.meaning (encoded V.meaning.byte (view self.now)) ≡ accepted }
     {
         let n = self.file_len();
-        if out.len() < n {
-            return Err(Refusal::BufferShort);
-        }
+        room_for(out, n)?;
         self.write::<V>(out);
         Ok(n)
     }

@@ -1,4 +1,4 @@
-use Rattle.std.proofs.Common.{◌<◌, ◌≤◌, ◌++◌, length, take, vec_items, sym, ap, ◌∙◌, arith}
+use Rattle.std.proofs.Common.{◌<◌, ◌≤◌, ◌++◌, length, take, sym, ap, ◌∙◌, arith}
 use Rattle.tables.specs.Tables.{view}
 use Rattle.tables.specs.Slots.{slot_total}
 use Rattle.sequences.proofs.Writings.{driver_start, driver_more, driver_ends, threads_some}
@@ -7,7 +7,7 @@ use Rattle.sequences.proofs.writes.write_driver.Goals as goal
 pub loop-q-init : goal.loop-q-init
 loop-q-init c =
     let p = view c.args.table.now in
-    (ap (λ xs. take 257 (vec_items c.args.driver.now ++ xs)) (driver_start p (length p.texts) (slot_total p c.args.rounds)), c.requires)
+    ap (λ xs. take 257 (c.args.driver.now ++ xs)) (driver_start p (length p.texts) (slot_total p c.args.rounds))
 
 pub thread_at-requires : goal.thread_at-requires
 thread_at-requires c =
@@ -16,26 +16,21 @@ thread_at-requires c =
     threads_some c.args.rounds (length p.texts) c.loop-q.q l
 
 pub write_slot-requires : goal.write_slot-requires
-write_slot-requires c = record { at = omega (arith, c.slots-q-end.ensures.few); room = c.loop-q.invariant.1 }
+write_slot-requires c = omega (arith, c.slots-q-end.ensures.few)
 
 pub loop-q-preserved : goal.loop-q-preserved
 loop-q-preserved c =
     let p = view c.args.table.now in
     let n = slot_total p c.args.rounds in
-    let l : c.loop-q.q < n = omega (arith, c.slots-q-end.ensures.value) in (
-      driver_more p (length p.texts) n 257 c.loop-q.q c.thread_at.result.0 (vec_items c.loop-q.driver) (vec_items c.write_slot.new.driver) l c.thread_at.ensures c.write_slot.ensures.items ∙ c.loop-q.invariant.0,
-      c.write_slot.ensures.room,
-    )
+    let l : c.loop-q.q < n = omega (arith, c.slots-q-end.ensures.value) in
+    driver_more p (length p.texts) n 257 c.loop-q.q c.thread_at.result.0 c.loop-q.driver c.write_slot.new.driver l c.thread_at.ensures c.write_slot.ensures
+    ∙ c.loop-q.invariant
 
 pub returns : goal.returns
 returns c =
     let p = view c.args.table.now in
     let n = slot_total p c.args.rounds in
     let l : n ≤ c.loop-q.q = omega (arith, c.slots-q-end.ensures.value) in
-    record {
-      items =
-          c.emit.ensures.items
-          ∙ ap (λ xs. take 257 (vec_items c.loop-q.driver ++ xs)) (sym (driver_ends p (length p.texts) n c.loop-q.q l))
-          ∙ c.loop-q.invariant.0;
-      room = c.emit.ensures.room;
-    }
+    c.push.ensures.value
+    ∙ ap (λ xs. take 257 (c.loop-q.driver ++ xs)) (sym (driver_ends p (length p.texts) n c.loop-q.q l))
+    ∙ c.loop-q.invariant

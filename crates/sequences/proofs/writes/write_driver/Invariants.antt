@@ -1,9 +1,8 @@
-use Rattle.std.proofs.Common.{◌≡◌, ◌-◌, ◌*◌, ◌%◌, ◌++◌, map, length, take, vec_items, vec_len, vec_capacity}
+use Rattle.std.proofs.Common.{◌≡◌, ◌-◌, ◌*◌, ◌%◌, ◌++◌, map, length, take}
 use Rattle.std.specs.List.{range_with_len}
 use Rattle.tables.specs.Tables.{view}
 use Rattle.tables.specs.Slots.{slot_total}
 use Rattle.sequences.specs.Code.{driver, driver_from}
-use Rattle.sequences.specs.Writes.{Room}
 use Rattle.sequences.proofs.writes.write_driver.Given as goal
 
 -- what is written, with what is left, comes to the whole
@@ -11,5 +10,4 @@ abbrev pub invariant-loop-q : goal.invariant-loop-q
 invariant-loop-q l =
     let p = view l.table in
     let n = slot_total p l.rounds in
-    (take 257 (vec_items l.driver ++ driver_from p (map (λ q. q % length p.texts) (range_with_len l.q (n - l.q))) (4 * l.q)) ≡ take 257 (vec_items l.initial.driver ++ driver p l.rounds))
-    × Room 257 (vec_capacity l.driver) (vec_len l.driver)
+    take 257 (l.driver ++ driver_from p (map (λ q. q % length p.texts) (range_with_len l.q (n - l.q))) (4 * l.q)) ≡ take 257 (l.initial.driver ++ driver p l.rounds)

@@ -1,17 +1,12 @@
-use Rattle.std.proofs.Common.{◌≡◌, ℕ, Bool, true, false, arith}
+use Rattle.std.proofs.Common.{is_some, sym, ap, ◌∙◌}
+use Rattle.sequences.specs.Drives.{move_of}
 use Rattle.sequences.specs.Sequences.{guide_of}
-use Rattle.sequences.proofs.Strides.{first_there, first_past}
+use Rattle.sequences.proofs.Strides.{first_got, got_below}
 use Rattle.sequences.proofs.sequence.Sequence.next.Goals as goal
 
-pub returns-then-at-len : goal.returns-then-at-len
-returns-then-at-len g c =
-    let s = c.args.self.now in
-    let len = s.driver.ok.0 in
-    let few = s.driver_few in
-    record { value = first_there (guide_of s) c.args.at.0 _ (omega arith) c.index.ensures; below = λ _. omega arith }
-
-pub returns-else-at-len : goal.returns-else-at-len
-returns-else-at-len g c =
-    let s = c.args.self.now in
-    let len = s.driver.ok.0 in
-    record { value = first_past (guide_of s) c.args.at.0 (omega arith); below = λ e. absurd (let z : ◌≡◌ {A = Bool} false true = e in let y : ◌≡◌ {A = ℕ} 0 1 = cc in omega arith) }
+pub returns : goal.returns
+returns g c =
+    record {
+      value = ap move_of c.copied.ensures ∙ first_got (guide_of c.args.self.now) c.args.at.0 c.driver.result.now c.get.result c.driver.ensures.value c.get.ensures.lookup.3;
+      below = λ e. got_below c.args.at.0 c.driver.result.now c.get.result 257 c.get.ensures.lookup.3 c.driver.ensures.few (sym (ap is_some c.copied.ensures) ∙ e);
+    }

@@ -1,4 +1,5 @@
 use Rattle.std.proofs.Common.{◌++◌, take, ap, ◌∙◌, arith}
+use Rattle.std.proofs.lemmas.List.{take_all}
 use Rattle.tables.specs.Tables.{view}
 use Rattle.sequences.specs.Code.{driver}
 use Rattle.sequences.proofs.Drivers.{driver_fits}
@@ -12,12 +13,16 @@ returns g c =
       holds =
           λ small few.
           record {
-            codes = c.write_codes.ensures.items ∙ c.cells.ensures.value;
+            codes =
+                c.extend_from_slice.ensures
+                ∙ ap (λ xs. take 16 (xs ++ c.cells.result.now)) c.clear.ensures
+                ∙ take_all 16 c.cells.result.now c.cells.ensures.few
+                ∙ c.cells.ensures.value;
             guide =
-                c.write_driver.ensures.items
-                ∙ ap (λ xs. take 257 (xs ++ driver p c.args.rounds)) c.clear.ensures.items
+                c.write_driver.ensures
+                ∙ ap (λ xs. take 257 (xs ++ driver p c.args.rounds)) c.clear-2.ensures
                 ∙ driver_fits p c.args.rounds few (omega (arith, c.args.table.now.texts_few, c.args.table.now.texts.ok.0));
-            sections = c.write_sections.ensures.value small;
+            sections = c.write_sections.ensures small;
           };
       well = well_translatable g.V.Kind.meaning p;
     }

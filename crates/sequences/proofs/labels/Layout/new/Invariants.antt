@@ -2,7 +2,7 @@ use Rattle.std.proofs.Common.{◌≡◌, ℕ, ◌*◌, ◌≤◌, length}
 use Rattle.std.specs.List.{AllByRecursion}
 use Rattle.tables.specs.Program.{Program}
 use Rattle.sequences.proofs.Ways.{Found}
-use Rattle.sequences.proofs.labels.find_labels.Given as goal
+use Rattle.sequences.proofs.labels.Layout.new.Given as goal
 
 abbrev pub invariant-loop-l : goal.invariant-loop-l
 invariant-loop-l l =
