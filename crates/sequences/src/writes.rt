@@ -144,6 +144,7 @@ fn write_slot(driver: &mut Driver, table: &Table, i: Thread, at: u16)
 fn slots(table: &Table, rounds: u8) -> u16
     ensures value { result ≡ slot_total (view table.now) rounds }
     ensures few { result ≤ 2040 }
+    ensures threads { length (view table.now).texts ≤ 8 }
 {
     rounds as u16 * table.threads() as u16
 }
@@ -158,7 +159,8 @@ fn thread_at(table: &Table, q: u16) -> Thread
 
 // The driver of so many rounds.
 pub(crate) fn write_driver(driver: &mut Driver, table: &Table, rounds: u8)
-    ensures { driver.new ≡ take 257 (driver.old ++ driver_code (view table.now) rounds) }
+    ensures items { driver.new ≡ take 257 (driver.old ++ driver_code (view table.now) rounds) }
+    ensures threads { length (view table.now).texts ≤ 8 }
 {
     for q in 0..slots(table, rounds) {
         write_slot(driver, table, thread_at(table, q), 4 * q);

@@ -31,6 +31,10 @@ returns c =
     let p = view c.args.table.now in
     let n = slot_total p c.args.rounds in
     let l : n ≤ c.loop-q.q = omega (arith, c.slots-q-end.ensures.value) in
-    c.push.ensures.value
-    ∙ ap (λ xs. take 257 (c.loop-q.driver ++ xs)) (sym (driver_ends p (length p.texts) n c.loop-q.q l))
-    ∙ c.loop-q.invariant
+    record {
+      items =
+          c.push.ensures.value
+          ∙ ap (λ xs. take 257 (c.loop-q.driver ++ xs)) (sym (driver_ends p (length p.texts) n c.loop-q.q l))
+          ∙ c.loop-q.invariant;
+      threads = c.slots-q-end.ensures.threads;
+    }

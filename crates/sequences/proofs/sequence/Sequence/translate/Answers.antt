@@ -19,9 +19,9 @@ returns g c =
                 ∙ take_all 16 c.cells.result.now c.cells.ensures.few
                 ∙ c.cells.ensures.value;
             guide =
-                c.write_driver.ensures
+                c.write_driver.ensures.items
                 ∙ ap (λ xs. take 257 (xs ++ driver p c.args.rounds)) c.clear-2.ensures
-                ∙ driver_fits p c.args.rounds few (omega (arith, c.args.table.now.texts_few, c.args.table.now.texts.ok.0));
+                ∙ driver_fits p c.args.rounds few c.write_driver.ensures.threads;
             sections = c.write_sections.ensures small;
           };
       well = well_translatable g.V.Kind.meaning p;
