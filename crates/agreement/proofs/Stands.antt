@@ -1,11 +1,11 @@
 -- Two runs that stand at one state with the same slots left, and one slot of each.
-use Rattle.std.proofs.Common.{◌≡◌, ℕ, ◌+◌, ◌≤◌, true, cond, List, [], ◌∷◌, ◌++◌, sym, ap, ◌∙◌, append_assoc}
+use Rattle.std.proofs.Common.{◌≡◌, ℕ, ◌+◌, ◌≤◌, true, cond, List, [], ◌∷◌, ◌++◌, sym, ap, ◌∙◌, append_assoc, Err}
 use Rattle.std.proofs.lemmas.Bool.{le-ltb}
 use Rattle.kinds.specs.Meaning.{Meaning}
 use Rattle.states.specs.declared.state.State.{State}
 use Rattle.states.specs.States.{created, label}
 use Rattle.tables.specs.Program.{Program}
-use Rattle.threads.specs.declared.slot.SlotEnd.TheVariants as end
+use Rattle.reports.specs.declared.stop.Stop.TheVariants as end
 use Rattle.threads.specs.Plays.{Played, closed, rounds, serve, bound, thread}
 use Rattle.threads.specs.Slots.{Ran, ran, run, slot_of}
 use Rattle.guesses.specs.Answers.{Answer, played_so}
@@ -33,12 +33,12 @@ module _ (k : Meaning) (p : Program) where
     pub count_slot : played_so p (rounds k p (i ∷ rest) s (n ∷ m)) ≡ over p (run k p (thread i) n 0 s) (λ s'. rounds k p rest s' m)
     count_slot =
         ap (played_so p) (slot_served (serve k p) (bound p) i rest s (n ∷ m) on)
-        ∙ ap (λ b. over p (cond b (ran (slot_of end.Cut 0) s) (run k p (thread i) n 0 s)) (λ s'. rounds k p rest s' m)) (le-ltb (bound p s i) n le)
+        ∙ ap (λ b. over p (cond b (ran (slot_of (Err end.Cut) 0) s) (run k p (thread i) n 0 s)) (λ s'. rounds k p rest s' m)) (le-ltb (bound p s i) n le)
 
     pub label_slot : played_so p (paces k p (i ∷ rest) s (n ∷ m)) ≡ over p (until k p (thread i) (label s i + n) n 0 s) (λ s'. paces k p rest s' m)
     label_slot =
         ap (played_so p) (slot_served (pace k p) (bound p) i rest s (n ∷ m) on)
-        ∙ ap (λ b. over p (cond b (ran (slot_of end.Cut 0) s) (until k p (thread i) (label s i + n) n 0 s)) (λ s'. paces k p rest s' m)) (le-ltb (bound p s i) n le)
+        ∙ ap (λ b. over p (cond b (ran (slot_of (Err end.Cut) 0) s) (until k p (thread i) (label s i + n) n 0 s)) (λ s'. paces k p rest s' m)) (le-ltb (bound p s i) n le)
 
   -- l₁ by count and l₂ by label stand at the state s with the slots `rest` left, and the slot counts so far are l₁
   pub record Stand (A₁ A₂ : List ℕ → Answer) (rest : List ℕ) (s : State) (l₁ l₂ : List ℕ) : Type 0 where

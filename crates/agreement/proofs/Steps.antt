@@ -1,5 +1,5 @@
 -- What a statement leaves that is carried out: a later label, and as many entries.
-use Rattle.std.proofs.Common.{◌≡◌, ℕ, ◌<◌, ◌≤◌, Bool, true, false, cond, eqb, length, Some, None, Option, refl, ap, ◌∙◌, arith, length-set, get_or-set_same}
+use Rattle.std.proofs.Common.{◌≡◌, ℕ, ◌<◌, ◌≤◌, Bool, true, false, cond, eqb, length, Some, None, Option, refl, ap, ◌∙◌, arith, length-set, get_or-set_same, Ok, Err}
 use Rattle.kinds.specs.Meaning.{Meaning}
 use Rattle.records.specs.declared.statement.Label.{Label}
 use Rattle.records.specs.declared.statement.Mutex.{Mutex}
@@ -17,8 +17,8 @@ use Rattle.tables.specs.Program.{Program, size, due}
 use Rattle.tables.specs.WellFormed.{Fit, WellFormed}
 use Rattle.threads.specs.declared.effect.Effect.{Effect}
 use Rattle.threads.specs.declared.effect.Effect.TheVariants.{Fail, Block, Pass, GoTo, Write, Mark}
-use Rattle.threads.specs.declared.step.Progress.{Progress}
-use Rattle.threads.specs.declared.step.Progress.TheVariants.{CarriedOut, Failed, Blocked}
+use Rattle.reports.specs.Stops.{End}
+use Rattle.reports.specs.declared.stop.Stop.TheVariants.{Failed, Cut}
 use Rattle.threads.specs.Effects.{ended, taken, freed, effect, effect_of, next}
 use Rattle.threads.specs.Plays.{thread}
 use Rattle.threads.specs.Steps.{progress, following, after}
@@ -36,10 +36,10 @@ pub record Later (p : Program) (i : ℕ) (s s⁺ : State) : Type 0 where
 
 module _ (k : Meaning) (p : Program) (i : ℕ) (s : State) where
   -- what is known of a statement that came out so and left the state s⁺
-  abbrev pub Left : State → Progress → Type 0
-  Left s⁺ CarriedOut = Later p i s s⁺
-  Left s⁺ Failed = label s i < size p i
-  Left s⁺ Blocked = Unit {0}
+  abbrev pub Left : State → End → Type 0
+  Left s⁺ (Ok tt) = Later p i s s⁺
+  Left s⁺ (Err Failed) = label s i < size p i
+  Left s⁺ (Err Cut) = Unit {0}
 
   abbrev Leaves : Effect → Type 0
   Leaves e = Left (after (thread i) e s) (progress e)

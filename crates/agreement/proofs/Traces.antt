@@ -1,5 +1,5 @@
 -- One slot by count and by label: the numbers that stay open or are full, and the least that fails, correspond in order.
-use Rattle.std.proofs.Common.{◌≡◌, ℕ, zero, suc, ◌+◌, ◌-◌, ◌<◌, ◌≤◌, List, [], ◌∷◌, ◌++◌, sym, refl, ap, ◌∙◌, subst, append_assoc, arith}
+use Rattle.std.proofs.Common.{◌≡◌, ℕ, zero, suc, ◌+◌, ◌-◌, ◌<◌, ◌≤◌, List, [], ◌∷◌, ◌++◌, sym, refl, ap, ◌∙◌, subst, append_assoc, arith, Ok, Err}
 use Rattle.std.specs.List.{AllZip}
 use Rattle.std.proofs.lemmas.List.{append-nil}
 use Rattle.kinds.specs.Meaning.{Meaning}
@@ -11,8 +11,8 @@ use Rattle.walks.specs.declared.outcome.Ending.TheVariants as ending
 use Rattle.walks.specs.declared.outcome.Outcome.{Outcome}
 use Rattle.walks.specs.declared.outcome.Outcome.TheVariants.{Open, Ended}
 use Rattle.walks.specs.Leaves.{scan}
-use Rattle.threads.specs.declared.step.Progress.{Progress}
-use Rattle.threads.specs.declared.step.Progress.TheVariants.{CarriedOut, Failed, Blocked}
+use Rattle.reports.specs.Stops.{End}
+use Rattle.reports.specs.declared.stop.Stop.TheVariants.{Failed, Cut}
 use Rattle.threads.specs.Plays.{rounds, serve, bound, thread, cells_of}
 use Rattle.threads.specs.Slots.{Ran, run}
 use Rattle.guesses.specs.Answers.{Answer, played_so}
@@ -96,25 +96,25 @@ module _ (k : Meaning) (p : Program) (w : WellFormed k p) (A₁ A₂ : List ℕ 
       s⁺ = behind k p i s
 
       -- that fails
-      failed : (kk jj : ℕ) → outcome k p i s ≡ Failed → label s i < size p i → j + kk ≡ top → g + jj ≡ top → Fit (scan out₁ below₁ l₁ kk (suc j)) (scan out₂ below₂ l₂ jj (suc g))
+      failed : (kk jj : ℕ) → outcome k p i s ≡ (Err Failed) → label s i < size p i → j + kk ≡ top → g + jj ≡ top → Fit (scan out₁ below₁ l₁ kk (suc j)) (scan out₂ below₂ l₂ jj (suc g))
       failed zero jj e lt ek ej = absurd (let z : ⊥ = omega (arith, along.at, along.low) in z)
       failed (suc kk) zero e lt ek ej = absurd (let z : ⊥ = omega (arith, along.at, along.low) in z)
       failed (suc kk) (suc jj) e lt ek ej =
           let a : Answer = record { outcome = Ended ending.Failed; counts = l₁ ++ suc j ∷ []; cells = cells_of p s⁺ } in
-          let a₁ : A₁ (l₁ ++ suc j ∷ []) ≡ a = count_from (suc j) 1 [] _ (omega arith) (omega arith) (run_next k p i s 0 j Failed e) in
-          let a₂ : A₂ (l₂ ++ suc g ∷ []) ≡ a = label_from (suc g) (suc (g - j)) [] _ (omega arith) (omega arith) (omega (arith, along.low)) (until_next k p i s (base + suc g) (g - j) j Failed (omega (arith, along.at)) e) in
+          let a₁ : A₁ (l₁ ++ suc j ∷ []) ≡ a = count_from (suc j) 1 [] _ (omega arith) (omega arith) (run_next k p i s 0 j (Err Failed) e) in
+          let a₂ : A₂ (l₂ ++ suc g ∷ []) ≡ a = label_from (suc g) (suc (g - j)) [] _ (omega arith) (omega arith) (omega (arith, along.low)) (until_next k p i s (base + suc g) (g - j) j (Err Failed) (omega (arith, along.at)) e) in
           agree_fail (Same A₁ A₂) out₁ out₂ below₁ below₂ l₁ l₂ kk jj (suc j) (suc g) (ap (λ (a : Answer). a.outcome) a₁) (ap (λ (a : Answer). a.outcome) a₂) (a₁ ∙ sym a₂, ap (λ (a : Answer). a.counts) a₂)
 
       -- it blocks, or there is none
-      blocked : (kk jj : ℕ) → outcome k p i s ≡ Blocked → j + kk ≡ top → g + jj ≡ top → Fit (scan out₁ below₁ l₁ kk (suc j)) (scan out₂ below₂ l₂ jj (suc g))
+      blocked : (kk jj : ℕ) → outcome k p i s ≡ (Err Cut) → j + kk ≡ top → g + jj ≡ top → Fit (scan out₁ below₁ l₁ kk (suc j)) (scan out₂ below₂ l₂ jj (suc g))
       blocked kk jj e ek ej =
           let c₁ : (u : ℕ) → suc j ≤ u → u < suc j + kk → out₁ (l₁ ++ u ∷ []) ≡ Ended ending.Cut =
-          λ u a b. ap (λ (a : Answer). a.outcome) (count_from u (suc (u - suc j)) [] _ (omega arith) (omega arith) (run_next k p i s (u - suc j) j Blocked e)) in
+          λ u a b. ap (λ (a : Answer). a.outcome) (count_from u (suc (u - suc j)) [] _ (omega arith) (omega arith) (run_next k p i s (u - suc j) j (Err Cut) e)) in
           let c₂ : (u : ℕ) → suc g ≤ u → u < suc g + jj → out₂ (l₂ ++ u ∷ []) ≡ Ended ending.Cut =
-          λ u a b. ap (λ (a : Answer). a.outcome) (label_from u (suc (u - suc j)) [] _ (omega arith) (omega arith) (omega (arith, along.low)) (until_next k p i s (base + u) (u - suc j) j Blocked (omega (arith, along.at)) e)) in
+          λ u a b. ap (λ (a : Answer). a.outcome) (label_from u (suc (u - suc j)) [] _ (omega arith) (omega arith) (omega (arith, along.low)) (until_next k p i s (base + u) (u - suc j) j (Err Cut) (omega (arith, along.at)) e)) in
           rw (all_cut out₁ below₁ l₁ kk (suc j) c₁, all_cut out₂ below₂ l₂ jj (suc g) c₂) tt
 
-      module _ (e : outcome k p i s ≡ CarriedOut) (later : Later p i s s⁺) where
+      module _ (e : outcome k p i s ≡ (Ok tt)) (later : Later p i s s⁺) where
         -- how far on the thread then stands
         abbrev g⁺ : ℕ
         g⁺ = label s⁺ i - base
@@ -127,11 +127,11 @@ module _ (k : Meaning) (p : Program) (w : WellFormed k p) (A₁ A₂ : List ℕ 
           within = omega (arith, later.in_text);
           ran₁ = λ m.
               let z : suc j + m ≡ j + suc m = omega arith in
-              ap (λ n. by_count n 0 s₀) z ∙ along.ran₁ (suc m) ∙ run_next k p i s m j CarriedOut e;
+              ap (λ n. by_count n 0 s₀) z ∙ along.ran₁ (suc m) ∙ run_next k p i s m j (Ok tt) e;
           ran₂ = λ cs f h.
               let z : suc j + f ≡ j + suc f = omega arith in
               let lt : label s i < cs = omega (arith, later.up) in
-              ap (λ n. by_label cs n 0 s₀) z ∙ along.ran₂ cs (suc f) (omega arith) ∙ until_next k p i s cs f j CarriedOut lt e;
+              ap (λ n. by_label cs n 0 s₀) z ∙ along.ran₂ cs (suc f) (omega arith) ∙ until_next k p i s cs f j (Ok tt) lt e;
         }
 
         -- the labels jumped over cut
@@ -139,19 +139,19 @@ module _ (k : Meaning) (p : Program) (w : WellFormed k p) (A₁ A₂ : List ℕ 
         between u a b =
             ap (λ (a : Answer). a.outcome)
             (label_from u (suc (u - suc j)) [] _ (omega arith) (omega (arith, later.in_text)) (omega (arith, along.low))
-            (until_next k p i s (base + u) (u - suc j) j CarriedOut (omega (arith, along.at)) e ∙ until_past k p i s⁺ (base + u) (u - suc j) (suc j) (omega arith)))
+            (until_next k p i s (base + u) (u - suc j) j (Ok tt) (omega (arith, along.at)) e ∙ until_past k p i s⁺ (base + u) (u - suc j) (suc j) (omega arith)))
 
       abbrev Rest : Type 0
       Rest =
           (s' : State) (g' kk' jj' : ℕ) → label s i < label s' i → label s' i ≤ size p i → Along (suc j) g' s' → suc j + kk' ≡ top → g' + jj' ≡ top
           → Fit (scan out₁ below₁ l₁ (suc kk') (suc j)) (scan out₂ below₂ l₂ (suc jj') g')
 
-      onward : (kk jj : ℕ) (o : Progress) → outcome k p i s ≡ o → Left k p i s s⁺ o → j + kk ≡ top → g + jj ≡ top → Rest
+      onward : (kk jj : ℕ) (o : End) → outcome k p i s ≡ o → Left k p i s s⁺ o → j + kk ≡ top → g + jj ≡ top → Rest
           → Fit (scan out₁ below₁ l₁ kk (suc j)) (scan out₂ below₂ l₂ jj (suc g))
-      onward kk jj Failed e a ek ej rec = failed kk jj e a ek ej
-      onward kk jj Blocked e a ek ej rec = blocked kk jj e ek ej
-      onward zero jj CarriedOut e a ek ej rec = absurd (let z : ⊥ = omega (arith, along.at, along.low, a.up, a.in_text) in z)
-      onward (suc kk) jj CarriedOut e a ek ej rec =
+      onward kk jj (Err Failed) e a ek ej rec = failed kk jj e a ek ej
+      onward kk jj (Err Cut) e a ek ej rec = blocked kk jj e ek ej
+      onward zero jj (Ok tt) e a ek ej rec = absurd (let z : ⊥ = omega (arith, along.at, along.low, a.up, a.in_text) in z)
+      onward (suc kk) jj (Ok tt) e a ek ej rec =
           let n : ℕ = g⁺ e a in
           let c : ℕ = n - suc g in
           let jj⁺ : ℕ = top - n in

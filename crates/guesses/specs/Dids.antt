@@ -1,5 +1,5 @@
 -- What the statement that is due does, apart from the thread's label.
-use Rattle.std.specs.Prelude.{◌≡◌, ℕ, suc, ◌+◌, ◌<◌, refl}
+use Rattle.std.specs.Prelude.{◌≡◌, ℕ, suc, ◌+◌, ◌<◌, refl, Err}
 use Rattle.std.proofs.Math.Path.{ap}
 use Rattle.std.proofs.Common.{◌∙◌, add-one}
 use Rattle.std.proofs.lemmas.Bool.{lt-ltb}
@@ -9,7 +9,7 @@ use Rattle.states.specs.States.{label, go, put, mark, create}
 use Rattle.tables.specs.Program.{Program}
 use Rattle.threads.specs.declared.effect.Effect.{Effect}
 use Rattle.threads.specs.declared.effect.Effect.TheVariants.{Fail, Block, Pass, GoTo, Write, Mark, Create}
-use Rattle.threads.specs.declared.slot.SlotEnd.TheVariants as end
+use Rattle.reports.specs.declared.stop.Stop.TheVariants as end
 use Rattle.threads.specs.Effects.{next}
 use Rattle.threads.specs.Plays.{thread}
 use Rattle.threads.specs.Slots.{Ran, ran, slot_of, stops, unless_stopped}
@@ -34,8 +34,8 @@ did i s (Create j) = Steps (create s j.0) (suc (label s i))
 
 -- after d statements the next one does this; `more` is the rest of the slot
 abbrev pub counted : ℕ → ℕ → State → (State → Ran) → Did → Ran
-counted i d s more Fails = ran (slot_of end.Failed (d + 1)) s
-counted i d s more Blocks = ran (slot_of end.Cut d) s
+counted i d s more Fails = ran (slot_of (Err end.Failed) (d + 1)) s
+counted i d s more Blocks = ran (slot_of (Err end.Cut) d) s
 counted i d s more (Steps s' t) = more (go s' i (lab t))
 
 did_counted : (i d : ℕ) (s : State) (more : State → Ran) (e : Effect) → unless_stopped (after (thread i) e s) (more (after (thread i) e s)) (stops (progress e) d) ≡ counted i d s more (did i s e)

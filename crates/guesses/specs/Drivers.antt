@@ -1,5 +1,5 @@
 -- The driver runs as the slots bounded by labels do.
-use Rattle.std.specs.Prelude.{◌≡◌, ℕ, zero, suc, ◌+◌, ◌-◌, ◌<◌, ◌≤◌, Bool, true, false, cond, List, [], ◌∷◌, length, drop, Some, None, Option, ◌==◌, ◌≢◌, nat_lt}
+use Rattle.std.specs.Prelude.{◌≡◌, ℕ, zero, suc, ◌+◌, ◌-◌, ◌<◌, ◌≤◌, Bool, true, false, cond, List, [], ◌∷◌, length, drop, Some, None, Option, ◌==◌, ◌≢◌, nat_lt, Ok, Err}
 use Rattle.std.proofs.Math.Path.{refl, ap}
 use Rattle.std.proofs.Common.{sym, ap₂, subst, ◌∙◌, ⊎_elim, arith, length-drop}
 use Rattle.std.specs.List.{AllByRecursion}
@@ -11,8 +11,8 @@ use Rattle.states.specs.States.{label, created, go, beginning}
 use Rattle.tables.specs.Program.{Program, size, due}
 use Rattle.tables.specs.Slots.{program_slots, slot_total}
 use Rattle.tables.specs.WellFormed.{WellFormed}
-use Rattle.threads.specs.declared.slot.SlotEnd.{SlotEnd}
-use Rattle.threads.specs.declared.slot.SlotEnd.TheVariants as slot_end
+use Rattle.reports.specs.Stops.{End}
+use Rattle.reports.specs.declared.stop.Stop.TheVariants as slot_end
 use Rattle.threads.specs.Effects.{effect_of}
 use Rattle.threads.specs.Plays.{bound, closed, served_by, thread}
 use Rattle.threads.specs.Slots.{Ran, ran, slot_of}
@@ -34,7 +34,7 @@ use Rattle.guesses.specs.Paces.{until, pace, paces}
 use Rattle.guesses.specs.Entries.{Sized, sized_go, lab, go_go, go_stay}
 use Rattle.guesses.specs.Layouts.{ahead_section}
 use Rattle.guesses.specs.Onwards.{Onto, onto}
-use Rattle.guesses.specs.Sections.{shown, section_end, section_runs}
+use Rattle.guesses.specs.Sections.{shown, section_runs}
 use Rattle.guesses.specs.Seen.{seen, seen_active, seen_label, seen_stop, save_label, set_stop, seen_start, sized_start}
 use Rattle.guesses.specs.Dids.{Did, Fails, Blocks, Steps, did, does, counted, until_did}
 use Rattle.guesses.specs.Rules.{slot_skipped, slot_served, none_full}
@@ -60,9 +60,9 @@ module _ (k : Meaning) (p : Program) (i : ℕ) where
   module _ (cs : ℕ) where
     -- a slot that is over stands at cs, and its state has its size
     abbrev Kept : Ran → Type 0
-    Kept r = (r.slot.end ≡ slot_end.Done → label r.state i ≡ cs) × Sized r.state
+    Kept r = (r.slot.end ≡ (Ok tt) → label r.state i ≡ cs) × Sized r.state
 
-    kept_cut : (d : ℕ) (s : State) → Sized s → Kept (ran (slot_of slot_end.Cut d) s)
+    kept_cut : (d : ℕ) (s : State) → Sized s → Kept (ran (slot_of (Err slot_end.Cut) d) s)
     kept_cut d s z = (λ e. absurd (let z : ◌≡◌ {A = ℕ} 0 1 = cc in omega arith), z)
 
     kept_counted : (d : ℕ) (s : State) (more : State → Ran) → Sized s → ((s' : State) → Sized s' → Kept (more s')) → (r : Did) → Sizes s r → Kept (counted i d s more r)
@@ -70,7 +70,7 @@ module _ (k : Meaning) (p : Program) (i : ℕ) where
     kept_counted d s more z h Blocks a = kept_cut d s z
     kept_counted d s more z h (Steps s' t) a = h (go s' i (lab t)) (sized_go s' i t (a z))
 
-    kept_at : (f d : ℕ) (s : State) → Sized s → ((label s i ≢ cs) → until k p (thread i) cs f d s ≡ ran (slot_of slot_end.Cut d) s) → Kept (until k p (thread i) cs f d s)
+    kept_at : (f d : ℕ) (s : State) → Sized s → ((label s i ≢ cs) → until k p (thread i) cs f d s ≡ ran (slot_of (Err slot_end.Cut) d) s) → Kept (until k p (thread i) cs f d s)
     kept_at f d s z off =
         ⊎_elim
         (λ (e : label s i ≡ cs). subst Kept (sym (until_at k p i s cs f d e)) (λ x. e, z))
@@ -196,7 +196,7 @@ module _ (k : Meaning) (p : Program) (w : WellFormed k p) (rounds : ℕ) where
       calls = call_sweep k i (section p i) (ahead_section p i k w) (seen s to) ∙ section_runs k p w i has g s le z
 
       -- SAVE behind a section that has returned
-      saves : r.slot.end ≡ slot_end.Done → with_word (seen (go r.state i (lab (label s i))) to) (saved i) (word (seen (go r.state i (lab (label s i))) to) stop_at) ≡ seen r.state to
+      saves : r.slot.end ≡ (Ok tt) → with_word (seen (go r.state i (lab (label s i))) to) (saved i) (word (seen (go r.state i (lab (label s i))) to) stop_at) ≡ seen r.state to
       saves done =
           let z' = sized_go r.state i (label s i) kept.1 in
           ap (with_word (seen (go r.state i (lab (label s i))) to) (saved i)) (seen_stop (go r.state i (lab (label s i))) to z')
@@ -204,18 +204,18 @@ module _ (k : Meaning) (p : Program) (w : WellFormed k p) (rounds : ℕ) where
           ∙ ap (λ x. seen x to) (go_go r.state i (label s i) to ∙ ap (λ t. go r.state i (lab t)) (sym (kept.0 done)) ∙ go_stay r.state i)
 
       -- the slot's end, its count and the state: what the driver comes to
-      abbrev closes : SlotEnd → Moved
-      closes slot_end.Done = arrives rest (4 + h) r.slot.count.0 r.state to
-      closes slot_end.Failed = moved r.slot.count.0 (Ended ending.Failed) (h + 1 + 1) (seen (go r.state i (lab (label s i))) to)
-      closes slot_end.Cut = moved r.slot.count.0 (Ended ending.Cut) (h + 1 + 1) (seen (go r.state i (lab (label s i))) to)
+      abbrev closes : End → Moved
+      closes (Ok tt) = arrives rest (4 + h) r.slot.count.0 r.state to
+      closes (Err slot_end.Failed) = moved r.slot.count.0 (Ended ending.Failed) (h + 1 + 1) (seen (go r.state i (lab (label s i))) to)
+      closes (Err slot_end.Cut) = moved r.slot.count.0 (Ended ending.Cut) (h + 1 + 1) (seen (go r.state i (lab (label s i))) to)
 
-      returns : (steps : ℕ) → length (driver_from p rest (4 + h)) ≤ steps → (e : SlotEnd) → r.slot.end ≡ e → returned (h + 1 + 1) (proceed k sq (suc steps)) (shown i (label s i) to r) (section_end e) ≡ closes e
-      returns steps enough slot_end.Done done =
+      returns : (steps : ℕ) → length (driver_from p rest (4 + h)) ≤ steps → (e : End) → r.slot.end ≡ e → returned (h + 1 + 1) (proceed k sq (suc steps)) (shown i (label s i) to r) e ≡ closes e
+      returns steps enough (Ok tt) done =
           step_at steps (h + 1 + 1 + 1) r.slot.count.0 _ _ _ (at_save i rest h at)
           ∙ ap₂ (λ n x. proceed k sq steps n r.slot.count.0 x) (next_at i rest h at) (saves done)
           ∙ proceed_arrives rest steps (4 + h) r.slot.count.0 r.state to (at_next i rest h at) known kept.1 enough
-      returns steps enough slot_end.Failed done = refl
-      returns steps enough slot_end.Cut done = refl
+      returns steps enough (Err slot_end.Failed) done = refl
+      returns steps enough (Err slot_end.Cut) done = refl
 
       call_closes : proceeds k sq (h + 1 + 1) (seen s to) ≡ closes r.slot.end
       call_closes =
@@ -228,13 +228,13 @@ module _ (k : Meaning) (p : Program) (w : WellFormed k p) (rounds : ℕ) where
 
     module _ (more : (c : ℕ) (s' : State) (to : ℕ) → Sized s' → (ns : List ℕ) → driven_so p (onward (arrives rest (4 + h) c s' to) ns) ≡ played_so p (paces k p rest s' ns)) (c : ℕ) (on : created s i ≡ true) where
       -- behind the slot
-      closes_so : (g : ℕ) (le : g ≤ bound p s i) (ns : List ℕ) (e : SlotEnd) → (r g le).slot.end ≡ e
+      closes_so : (g : ℕ) (le : g ≤ bound p s i) (ns : List ℕ) (e : End) → (r g le).slot.end ≡ e
           → behind (closes g le e).count (driven_so p (onward (closes g le e) ns)) ≡ played_so p (closed (r g le) (λ s'. paces k p rest s' ns) e)
-      closes_so g le ns slot_end.Done done =
+      closes_so g le ns (Ok tt) done =
           ap₂ behind (count_kept rest (4 + h) (r g le).slot.count.0 (r g le).state (to g le)) (more (r g le).slot.count.0 (r g le).state (to g le) (kept g le).1 ns)
-      closes_so g le ns slot_end.Failed done =
+      closes_so g le ns (Err slot_end.Failed) done =
           ap (λ d. behind (r g le).slot.count.0 (driven_so p d)) (ended_stays ending.Failed (r g le).slot.count.0 (h + 1 + 1) (seen (go (r g le).state i (lab (label s i))) (to g le)) ns)
-      closes_so g le ns slot_end.Cut done =
+      closes_so g le ns (Err slot_end.Cut) done =
           ap (λ d. behind (r g le).slot.count.0 (driven_so p d)) (ended_stays ending.Cut (r g le).slot.count.0 (h + 1 + 1) (seen (go (r g le).state i (lab (label s i))) (to g le)) ns)
 
       slot_runs : (ns : List ℕ) → driven_so p (onward (moved c (Open (bound p s i)) (h + 1) q) ns) ≡ played_so p (served_by (pace k p) (bound p) i s (paces k p rest) ns)
@@ -245,13 +245,13 @@ module _ (k : Meaning) (p : Program) (w : WellFormed k p) (rounds : ℕ) where
           let cut = lt-ltb (bound p s i) g lt in
           ap (driven_so p) (open_reads (bound p s i) c (h + 1) q g ns (moved 0 (Ended ending.Cut) (h + 1) q) (reads_guess g ∙ ap (λ b. cond b (moved 0 (Ended ending.Cut) (h + 1) q) (proceeds k sq (h + 1 + 1) (seen s (label s i + g)))) cut))
           ∙ ap (λ d. behind 0 (driven_so p d)) (ended_stays ending.Cut 0 (h + 1) q ns)
-          ∙ sym (ap (λ b. let r = cond b (ran (slot_of slot_end.Cut 0) s) (until k p (thread i) (label s i + g) g 0 s) in played_so p (closed r (λ s'. paces k p rest s' ns) r.slot.end)) cut))
+          ∙ sym (ap (λ b. let r = cond b (ran (slot_of (Err slot_end.Cut) 0) s) (until k p (thread i) (label s i + g) g 0 s) in played_so p (closed r (λ s'. paces k p rest s' ns) r.slot.end)) cut))
           (λ (le : g ≤ bound p s i).
           let in_bound = le-ltb (bound p s i) g le in
           ap (driven_so p) (open_reads (bound p s i) c (h + 1) q g ns (closes g le (r g le).slot.end)
           (reads_guess g ∙ ap (λ b. cond b (moved 0 (Ended ending.Cut) (h + 1) q) (proceeds k sq (h + 1 + 1) (seen s (label s i + g)))) in_bound ∙ call_closes g le))
           ∙ closes_so g le ns (r g le).slot.end refl
-          ∙ sym (ap (λ b. let r = cond b (ran (slot_of slot_end.Cut 0) s) (until k p (thread i) (label s i + g) g 0 s) in played_so p (closed r (λ s'. paces k p rest s' ns) r.slot.end)) in_bound))
+          ∙ sym (ap (λ b. let r = cond b (ran (slot_of (Err slot_end.Cut) 0) s) (until k p (thread i) (label s i + g) g 0 s) in played_so p (closed r (λ s'. paces k p rest s' ns) r.slot.end)) in_bound))
           (cases_lt (bound p s i) g)
 
   driver_runs : (rest : List ℕ) (h c : ℕ) (s : State) (cs : ℕ) → Before rest h → AllByRecursion (λ i. i < 8) rest → Sized s → (ns : List ℕ) → driven_so p (onward (arrives rest h c s cs) ns) ≡ played_so p (paces k p rest s ns)

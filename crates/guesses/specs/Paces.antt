@@ -1,12 +1,12 @@
 -- The layer between the two machines: the thread machine's slots, but a number says how far beyond its label the thread goes.
-use Rattle.std.specs.Prelude.{ℕ, zero, suc, ◌+◌, cond, List, ◌==◌, nat_lt}
+use Rattle.std.specs.Prelude.{ℕ, zero, suc, ◌+◌, cond, List, ◌==◌, nat_lt, Ok, Err}
 use Rattle.kinds.specs.Meaning.{Meaning}
 use Rattle.records.specs.declared.statement.Thread.{Thread}
 use Rattle.states.specs.declared.state.State.{State}
 use Rattle.states.specs.States.{label, beginning}
 use Rattle.tables.specs.Program.{Program}
 use Rattle.tables.specs.Slots.{slot_total, program_slots}
-use Rattle.threads.specs.declared.slot.SlotEnd.TheVariants as end
+use Rattle.reports.specs.declared.stop.Stop.TheVariants as end
 use Rattle.threads.specs.Effects.{next}
 use Rattle.threads.specs.Plays.{Played, bound, rounds_by, thread}
 use Rattle.threads.specs.Slots.{Ran, ran, slot_of, stops, unless_stopped}
@@ -14,7 +14,7 @@ use Rattle.threads.specs.Steps.{progress, after}
 
 -- the thread stands at the label l: at the label cs its slot is over, past it the run is cut
 abbrev pub arrived : (cs l d : ℕ) → State → Ran
-arrived cs l d s = cond (l == cs) (ran (slot_of end.Done d) s) (ran (slot_of end.Cut d) s)
+arrived cs l d s = cond (l == cs) (ran (slot_of (Ok tt) d) s) (ran (slot_of (Err end.Cut) d) s)
 
 -- thread i runs while its label is below cs, for at most n more statements, after d in this slot
 unfoldable pub until : Meaning → Program → Thread → (cs n d : ℕ) → State → Ran
@@ -26,7 +26,7 @@ until k p i cs (suc n) d s =
 
 -- thread i's slot with the number g; one above the bound cuts the run before the slot begins
 abbrev pub pace : Meaning → Program → ℕ → State → ℕ → Ran
-pace k p i s g = cond (nat_lt (bound p s i) g) (ran (slot_of end.Cut 0) s) (until k p (thread i) (label s i + g) g 0 s)
+pace k p i s g = cond (nat_lt (bound p s i) g) (ran (slot_of (Err end.Cut) 0) s) (until k p (thread i) (label s i + g) g 0 s)
 
 abbrev pub paces : Meaning → Program → List ℕ → State → List ℕ → Played
 paces k p = rounds_by (pace k p) (bound p)

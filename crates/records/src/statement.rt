@@ -12,11 +12,11 @@ pub enum Place {
 pub struct Label(pub u8);
 
 // A mutex, by its number.
-#[derive(Clone, Copy)]
+#[derive(Clone, Copy, PartialEq, Eq)]
 pub struct Mutex(pub u8);
 
 // A thread, by its number.
-#[derive(Clone, Copy)]
+#[derive(Clone, Copy, PartialEq, Eq)]
 pub struct Thread(pub u8);
 
 // The sixteen statements. `d` is written, `a` and `b` are read, `t` is gone to.

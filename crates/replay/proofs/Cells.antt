@@ -1,5 +1,5 @@
 -- A run keeps the number of cells, so it leaves as many as the program has.
-use Rattle.std.proofs.Common.{◌≡◌, ℕ, zero, suc, ◌+◌, Bool, true, false, cond, ltb, List, [], ◌∷◌, length, take, drop, replicate, Some, None, Option, refl, ◌∙◌, arith}
+use Rattle.std.proofs.Common.{◌≡◌, ℕ, zero, suc, ◌+◌, Bool, true, false, cond, ltb, List, [], ◌∷◌, length, take, drop, replicate, Some, None, Option, refl, ◌∙◌, arith, Ok, Err}
 use Rattle.std.proofs.lemmas.List.{length-set, length-append, length-take-le, take_at}
 use Rattle.kinds.specs.Meaning.{Meaning}
 use Rattle.records.specs.declared.statement.Place.{Place}
@@ -11,8 +11,8 @@ use Rattle.states.specs.States.{created, beginning, put}
 use Rattle.threads.specs.declared.effect.Effect.{Effect}
 use Rattle.threads.specs.declared.effect.Effect.TheVariants.{Fail, Block, Pass, GoTo, Write, Mark, Create}
 use Rattle.threads.specs.declared.slot.Slot.{Slot}
-use Rattle.threads.specs.declared.slot.SlotEnd.{SlotEnd}
-use Rattle.threads.specs.declared.slot.SlotEnd.TheVariants as end
+use Rattle.reports.specs.Stops.{End}
+use Rattle.reports.specs.declared.stop.Stop.TheVariants as end
 use Rattle.threads.specs.Effects.{next}
 use Rattle.tables.specs.Slots.{program_slots, slot_total}
 use Rattle.threads.specs.Plays.{Played, bound, thread, serve, closed, served, rounds_by, rounds, play, cells_of}
@@ -55,13 +55,13 @@ either_wide n false x y e f = f
 
 serve_wide : (k : Meaning) (p : Program) (i : ℕ) (s : State) (n : ℕ) → wide (serve k p i s n).state ≡ wide s
 serve_wide k p i s n =
-    either_wide (wide s) (ltb (bound p s i) n) (ran (slot_of end.Cut 0) s) (run k p (thread i) n 0 s) refl (run_wide k p (thread i) n 0 s)
+    either_wide (wide s) (ltb (bound p s i) n) (ran (slot_of (Err end.Cut) 0) s) (run k p (thread i) n 0 s) refl (run_wide k p (thread i) n 0 s)
 
-closed_wide : (n : ℕ) (r : Ran) (more : State → Played) (e : SlotEnd) → wide r.state ≡ n → ((s : State) → wide (more s).state ≡ wide s) →
+closed_wide : (n : ℕ) (r : Ran) (more : State → Played) (e : End) → wide r.state ≡ n → ((s : State) → wide (more s).state ≡ wide s) →
     wide (closed r more e).state ≡ n
-closed_wide n r more end.Done e f = f r.state ∙ e
-closed_wide n r more end.Failed e f = e
-closed_wide n r more end.Cut e f = e
+closed_wide n r more (Ok tt) e f = f r.state ∙ e
+closed_wide n r more (Err end.Failed) e f = e
+closed_wide n r more (Err end.Cut) e f = e
 
 served_wide : (k : Meaning) (p : Program) (i : ℕ) (s : State) (more : State → List ℕ → Played) (ns : List ℕ) →
     ((s' : State) (ms : List ℕ) → wide (more s' ms).state ≡ wide s') → wide (served k p i s more ns).state ≡ wide s

@@ -1,13 +1,18 @@
 -- What a run over a list of numbers answers, and what it writes.
-use Rattle.std.specs.Prelude.{ℕ, cond, ◌&&◌, List, ◌++◌, length, drop, Some, None, Ok, Err, sum, Option, Result, nat_le}
+use Rattle.std.specs.Prelude.{ℕ, ◌+◌, cond, ◌&&◌, List, ◌++◌, length, drop, Some, None, Ok, Err, sum, Option, Result, nat_le}
 use Rattle.records.specs.declared.refusal.Refusal.{Refusal}
 use Rattle.records.specs.declared.refusal.Refusal.TheVariants.{ListLength, BufferShort}
 use Rattle.walks.specs.declared.outcome.Outcome.{Outcome}
 use Rattle.reports.specs.declared.report.Report.{Report}
+use Rattle.reports.specs.declared.report.Turn.{Turn}
 
 -- a slot count for each number that was read, and all statements carried out
 abbrev pub report : Outcome → List ℕ → Report
 report o counts = record { outcome = o; read = length counts; carried = sum counts }
+
+-- a report of one number more
+abbrev pub noted : Report → Turn → Report
+noted r t = record { outcome = t.outcome; read = r.read + 1; carried = r.carried + t.count }
 
 -- a buffer with numbers at its front; those past them stay
 abbrev pub front : List ℕ → List ℕ → List ℕ

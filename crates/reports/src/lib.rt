@@ -1,4 +1,6 @@
 // What a run over a list of numbers reports, and the questions before it.
 #![tactic(auto)]
 
+pub mod player;
 pub mod report;
+pub mod stop;

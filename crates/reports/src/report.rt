@@ -1,6 +1,6 @@
 // The report of a run, and the questions that a call asks before it.
-ghost use Rattle.std.specs.Prelude.{◌≡◌, length};
-ghost use Rattle.reports.specs.Reports.{refusal, answered};
+ghost use Rattle.std.specs.Prelude.{◌≡◌, ◌+◌, ◌^◌, ◌<◌, length};
+ghost use Rattle.reports.specs.Reports.{refusal, answered, noted};
 
 use records::refusal::Refusal;
 use walks::outcome::Outcome;
@@ -11,6 +11,26 @@ pub struct Report {
     pub outcome: Outcome,
     pub read: u8,
     pub carried: u16,
+}
+
+// What a number came to: the statements carried out in its slot, and how the run stands then.
+#[derive(Clone, Copy)]
+pub struct Turn {
+    pub count: u8,
+    pub outcome: Outcome,
+}
+
+impl Report {
+    // One number more was read, and came to this.
+    pub fn note(&mut self, turn: Turn)
+        requires read { self.old.read < 255 }
+        requires carried { self.old.carried + turn.count < 2 ^ 16 }
+        ensures { self.new ≡ noted self.old turn }
+    {
+        self.read += 1;
+        self.carried += turn.count as u16;
+        self.outcome = turn.outcome;
+    }
 }
 
 // The questions of a run: the numbers, and the room for what is written, the program having so many cells.

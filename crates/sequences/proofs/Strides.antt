@@ -1,5 +1,5 @@
 -- One more instruction of the driver.
-use Rattle.std.proofs.Common.{◌≡◌, ℕ, suc, ◌+◌, ◌-◌, ◌<◌, ◌≤◌, Bool, true, false, cond, eqb, List, length, Some, None, Option, is_some, Bor, MatchOption, drop, sym, refl, ap, ◌∙◌, arith}
+use Rattle.std.proofs.Common.{◌≡◌, ℕ, suc, ◌+◌, ◌-◌, ◌<◌, ◌≤◌, Bool, true, false, cond, eqb, List, length, Some, None, Option, is_some, Bor, MatchOption, drop, sym, refl, ap, ◌∙◌, arith, Ok, Err}
 use Rattle.std.specs.List.{HoldsAt}
 use Rattle.std.specs.Option.{option_copied}
 use Rattle.std.proofs.lemmas.Bool.{false≢true}
@@ -9,11 +9,10 @@ use Rattle.std.specs.declared.ops.ControlFlow.TheVariants.{Continue, Break}
 use Rattle.kinds.specs.Meaning.{Meaning}
 use Rattle.walks.specs.declared.outcome.Ending.TheVariants.{Cut}
 use Rattle.walks.specs.declared.outcome.Outcome.TheVariants.{Ended}
-use Rattle.sequences.specs.declared.drive.SeqTurn.{SeqTurn}
+use Rattle.reports.specs.declared.report.Turn.{Turn}
+use Rattle.reports.specs.Stops.{End}
 use Rattle.sequences.specs.declared.instruction.Instruction.{Instruction}
 use Rattle.sequences.specs.declared.point.SeqPoint.{SeqPoint}
-use Rattle.sequences.specs.declared.section.SectionEnd.{SectionEnd}
-use Rattle.sequences.specs.declared.section.SectionEnd.TheVariants as end
 use Rattle.sequences.specs.declared.state.SeqState.{SeqState}
 use Rattle.sequences.specs.Acts.{Called, call}
 use Rattle.sequences.specs.Drives.{Sequence, Moved, moved, Move, slot, guess, enter, save, finish, stray, move, move_of, first_move, returned, driven, proceed}
@@ -34,17 +33,16 @@ got_below h xs None n l few e = absurd (false≢true e)
 got_below h xs (Some x) n l few e = omega (arith, l.0)
 
 -- what an instruction makes of the run: `more` is the run from another address
-abbrev pub onward : (ℕ → ℕ → SeqState → Moved) → SeqPoint → ControlFlow SeqTurn ℕ → Moved
+abbrev pub onward : (ℕ → ℕ → SeqState → Moved) → SeqPoint → ControlFlow Turn ℕ → Moved
 onward more p (Continue c) = more p.at.0 c p.state
 onward more p (Break t) = moved t.count t.outcome p.at.0 p.state
 
 abbrev onward_by : (ℕ → ℕ → SeqState → Moved) → Strode → Moved
 onward_by more s = onward more s.point s.stride
 
-returned_onward : (h : ℕ) (more : ℕ → ℕ → SeqState → Moved) (r : Called) (e : SectionEnd) → returned h more r e ≡ onward_by more (entered h r e)
-returned_onward h more r end.Returned = refl
-returned_onward h more r end.Failed = refl
-returned_onward h more r end.Cut = refl
+returned_onward : (h : ℕ) (more : ℕ → ℕ → SeqState → Moved) (r : Called) (e : End) → returned h more r e ≡ onward_by more (entered h r e)
+returned_onward h more r (Ok tt) = refl
+returned_onward h more r (Err e) = refl
 
 either : (b : Bool) (a h c : ℕ) (q : SeqState) (more : ℕ → ℕ → SeqState → Moved) → cond b (more a c q) (more h c q) ≡ more (cond b a h) c q
 either true a h c q more = refl
@@ -60,7 +58,7 @@ driven_onward k sections h c q more stray = refl
 
 module _ (k : Meaning) (s : Sequence) (n : ℕ) where
   -- the run goes on as the instruction at its address says
-  pub proceed_after : (z h c : ℕ) (q : SeqState) (t : ControlFlow SeqTurn ℕ) (p : SeqPoint) → z < n → strode t p ≡ stride k s.sections h c q (first_move (drop h s.guide)) → proceed k s (n - z) h c q ≡ onward (proceed k s (n - (z + 1))) p t
+  pub proceed_after : (z h c : ℕ) (q : SeqState) (t : ControlFlow Turn ℕ) (p : SeqPoint) → z < n → strode t p ≡ stride k s.sections h c q (first_move (drop h s.guide)) → proceed k s (n - z) h c q ≡ onward (proceed k s (n - (z + 1))) p t
   unfolding proceed
   proceed_after z h c q t p l e =
       let m : n - z ≡ suc (n - (z + 1)) = omega arith in

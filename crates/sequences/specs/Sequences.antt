@@ -4,7 +4,6 @@ use Rattle.kinds.specs.Meaning.{Meaning}
 use Rattle.tables.specs.Program.{Program}
 use Rattle.reports.specs.declared.report.Report.{Report}
 use Rattle.reports.specs.Reports.{report}
-use Rattle.walks.specs.declared.outcome.Outcome.{Outcome}
 use Rattle.sequences.specs.declared.instruction.Instruction.{Instruction}
 use Rattle.sequences.specs.declared.sequence.Part.{Part}
 use Rattle.sequences.specs.declared.sequence.Sequence.{Sequence}
@@ -50,9 +49,6 @@ drives_so k s ns = drive_on k (instructions s) (codes_of s) ns
 -- the cells that a list of guesses leaves
 abbrev pub cells_left : {V : Type 0} → Meaning → Sequence V → List ℕ → List ℕ
 cells_left k s ns = own_cells (codes_of s) (drives_so k s ns).state
-
-abbrev pub report_of : Outcome → ℕ → ℕ → Report
-report_of o n c = record { outcome = o; read = n; carried = c }
 
 abbrev pub reported : Driven → Report
 reported r = report r.outcome r.counts

@@ -1,42 +1,41 @@
 -- One instruction of the driver: where it leads, and the numbers after it.
-use Rattle.std.specs.Prelude.{ℕ, ◌+◌, ◌-◌, cond, List, ◌==◌}
+use Rattle.std.specs.Prelude.{ℕ, ◌+◌, ◌-◌, cond, List, ◌==◌, Ok, Err}
 use Rattle.std.specs.declared.ops.ControlFlow.{ControlFlow}
 use Rattle.std.specs.declared.ops.ControlFlow.TheVariants.{Continue, Break}
 use Rattle.kinds.specs.Meaning.{Meaning}
 use Rattle.walks.specs.declared.outcome.Ending.{Ending}
 use Rattle.walks.specs.declared.outcome.Ending.TheVariants as ending
 use Rattle.walks.specs.declared.outcome.Outcome.TheVariants.{Open, Ended}
-use Rattle.sequences.specs.declared.drive.SeqTurn.{SeqTurn}
+use Rattle.reports.specs.declared.report.Turn.{Turn}
+use Rattle.reports.specs.Stops.{End}
+use Rattle.reports.specs.Stops as stops
 use Rattle.sequences.specs.declared.instruction.Instruction.{Instruction}
 use Rattle.sequences.specs.declared.point.SeqPoint.{SeqPoint}
-use Rattle.sequences.specs.declared.section.SectionEnd.{SectionEnd}
-use Rattle.sequences.specs.declared.section.SectionEnd.TheVariants as end
 use Rattle.sequences.specs.declared.state.SeqState.{SeqState}
 use Rattle.sequences.specs.Acts.{Called, call}
-use Rattle.sequences.specs.Drives.{Move, slot, guess, enter, save, finish, stray, Moved, point}
+use Rattle.sequences.specs.Drives.{Move, slot, guess, enter, save, finish, stray, point}
 use Rattle.sequences.specs.States.{word, with_word}
 use Rattle.sequences.specs.Words.{active, saved, stop_at}
 
 -- a turn that ends the run
-abbrev pub over : ℕ → Ending → SeqTurn
+abbrev pub over : ℕ → Ending → Turn
 over c e = record { count = c; outcome = Ended e }
 
 -- a turn that waits for a number
-abbrev pub waiting : ℕ → ℕ → SeqTurn
+abbrev pub waiting : ℕ → ℕ → Turn
 waiting c b = record { count = c; outcome = Open b }
 
 -- whether the driver goes on, with the latest CALL's count, and where it is
 pub record Strode : Type 0 where
-  pub stride : ControlFlow SeqTurn ℕ
+  pub stride : ControlFlow Turn ℕ
   pub point : SeqPoint
 
-abbrev pub strode : ControlFlow SeqTurn ℕ → SeqPoint → Strode
+abbrev pub strode : ControlFlow Turn ℕ → SeqPoint → Strode
 strode s p = record { stride = s; point = p }
 
-abbrev pub entered : ℕ → Called → SectionEnd → Strode
-entered h r end.Returned = strode (Continue r.count) (point (h + 1) r.state)
-entered h r end.Failed = strode (Break (over r.count ending.Failed)) (point h r.state)
-entered h r end.Cut = strode (Break (over r.count ending.Cut)) (point h r.state)
+abbrev pub entered : ℕ → Called → End → Strode
+entered h r (Ok tt) = strode (Continue r.count) (point (h + 1) r.state)
+entered h r (Err e) = strode (Break (over r.count (stops.ending e))) (point h r.state)
 
 abbrev pub stride : Meaning → (ℕ → List Instruction) → (h c : ℕ) → SeqState → Move → Strode
 stride k sections h c q (slot i to) = strode (Continue c) (point (cond (word q (active i) == 0) to (h + 1)) q)
@@ -45,7 +44,3 @@ stride k sections h c q (enter i) = let r = call k i (sections i) q in entered h
 stride k sections h c q (save i) = strode (Continue c) (point (h + 1) (with_word q (saved i) (word q stop_at)))
 stride k sections h c q finish = strode (Break (over c ending.Full)) (point h q)
 stride k sections h c q stray = strode (Break (over c ending.Cut)) (point h q)
-
--- what a run has come to, with the point where it is
-abbrev pub with_point : SeqTurn → SeqPoint → Moved
-with_point t p = record { count = t.count; outcome = t.outcome; point = p }

@@ -1,41 +1,34 @@
 // The run of the driver: from guess to guess.
 ghost use Rattle.std.specs.Prelude.{◌≡◌, ◌<◌, ◌≤◌, true, length, drop, is_some};
+ghost use Rattle.reports.specs.Players.{with_point};
 ghost use Rattle.sequences.specs.Acts.{call as called_so};
 ghost use Rattle.sequences.specs.Drives.{move, move_of, first_move, proceeds, guessed, turn as turned_so};
 ghost use Rattle.sequences.specs.Passages.{with_state};
 ghost use Rattle.sequences.specs.Sequences.{sections_of, guide_of, instructions, starts};
-ghost use Rattle.sequences.specs.Strides.{strode, entered, over, stride as strides_so, with_point};
+ghost use Rattle.sequences.specs.Strides.{strode, entered, over, stride as strides_so};
 
 use crate::instruction::{Address, Instruction, STOP_AT, Word};
 use crate::point::SeqPoint;
-use crate::section::{Section, SectionEnd, call_section};
+use crate::section::{Section, call_section};
 use crate::sequence::{Part, Sequence};
 use crate::state::SeqState;
 use kinds::Kind;
 use records::lookup::{item_or, part_of};
 use records::statement::Thread;
+use reports::report::Turn;
 use std::ops::ControlFlow;
 use walks::outcome::{Ending, Outcome};
 
-// What a number came to: the statements carried out by the latest CALL, and how the run stands then.
-#[derive(Clone, Copy)]
-pub struct SeqTurn {
-    pub count: u8,
-    pub outcome: Outcome,
-}
-
 // The driver goes on behind an instruction with the latest CALL's count, or the turn is over.
-type Stride = ControlFlow<SeqTurn, u8>;
+type Stride = ControlFlow<Turn, u8>;
 
-impl SeqTurn {
-    // A turn with which the run has ended.
-    fn ended(count: u8, ending: Ending) -> SeqTurn
-        ensures { result ≡ over count ending }
-    {
-        SeqTurn {
-            count,
-            outcome: Outcome::Ended(ending),
-        }
+// A turn with which the run has ended.
+fn ended(count: u8, ending: Ending) -> Turn
+    ensures { result ≡ over count ending }
+{
+    Turn {
+        count,
+        outcome: Outcome::Ended(ending),
     }
 }
 
@@ -73,12 +66,11 @@ impl<V: Kind> Sequence<V> {
     {
         let section = call_section::<V>(&mut at.state, i, self.section(i));
         match section.end {
-            SectionEnd::Returned => {
+            Ok(()) => {
                 at.at = Address(at.at.0 + 1);
                 ControlFlow::Continue(section.count)
             }
-            SectionEnd::Failed => ControlFlow::Break(SeqTurn::ended(section.count, Ending::Failed)),
-            SectionEnd::Cut => ControlFlow::Break(SeqTurn::ended(section.count, Ending::Cut)),
+            Err(stop) => ControlFlow::Break(ended(section.count, Ending::from(stop))),
         }
     }
 
@@ -99,7 +91,7 @@ impl<V: Kind> Sequence<V> {
             }
             Instruction::Guess { i, n } => {
                 let bound = n.saturating_sub(at.state.saved(i));
-                ControlFlow::Break(SeqTurn {
+                ControlFlow::Break(Turn {
                     count,
                     outcome: Outcome::Open(bound),
                 })
@@ -111,8 +103,8 @@ impl<V: Kind> Sequence<V> {
                 at.at = behind;
                 ControlFlow::Continue(count)
             }
-            Instruction::End => ControlFlow::Break(SeqTurn::ended(count, Ending::Full)),
-            _ => ControlFlow::Break(SeqTurn::ended(count, Ending::Cut)),
+            Instruction::End => ControlFlow::Break(ended(count, Ending::Full)),
+            _ => ControlFlow::Break(ended(count, Ending::Cut)),
         }
     }
 
@@ -122,12 +114,12 @@ impl<V: Kind> Sequence<V> {
     {
         match self.next(at.at) {
             Some(instruction) => self.obey(at, count, instruction),
-            None => ControlFlow::Break(SeqTurn::ended(count, Ending::Cut)),
+            None => ControlFlow::Break(ended(count, Ending::Cut)),
         }
     }
 
     // From a point to the next GUESS, or to the end.
-    fn proceed(&self, at: &mut SeqPoint) -> SeqTurn
+    fn proceed(&self, at: &mut SeqPoint) -> Turn
         ensures { with_point result at.new ≡ proceeds V.meaning (instructions self.now) at.old.at.0 at.old.state }
     {
         let mut count = 0;
@@ -137,17 +129,17 @@ impl<V: Kind> Sequence<V> {
                 ControlFlow::Break(turn) => return turn,
             }
         }
-        SeqTurn::ended(count, Ending::Cut)
+        ended(count, Ending::Cut)
     }
 
     // The number read by GUESS `i n` at a point.
-    fn guess(&self, at: &mut SeqPoint, i: Thread, n: u8, number: u8) -> SeqTurn
+    fn guess(&self, at: &mut SeqPoint, i: Thread, n: u8, number: u8) -> Turn
         requires { at.old.at.0 < 257 }
         ensures { with_point result at.new ≡ guessed V.meaning (instructions self.now) at.old.at.0 i.0 n number at.old.state }
     {
         let label = at.state.saved(i);
         if number > n.saturating_sub(label) {
-            return SeqTurn::ended(0, Ending::Cut);
+            return ended(0, Ending::Cut);
         }
         at.state.set_word(STOP_AT, label + number);
         at.at = Address(at.at.0 + 1);
@@ -155,12 +147,12 @@ impl<V: Kind> Sequence<V> {
     }
 
     // Goes on from a point by one number; where no GUESS waits, the run is cut.
-    pub fn turn(&self, at: &mut SeqPoint, number: u8) -> SeqTurn
+    pub fn turn(&self, at: &mut SeqPoint, number: u8) -> Turn
         ensures { with_point result at.new ≡ turned_so V.meaning (instructions self.now) at.old number }
     {
         match self.next(at.at) {
             Some(Instruction::Guess { i, n }) => self.guess(at, i, n, number),
-            _ => SeqTurn::ended(0, Ending::Cut),
+            _ => ended(0, Ending::Cut),
         }
     }
 

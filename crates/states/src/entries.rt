@@ -1,5 +1,5 @@
 // The table of thread entries. A statement changes an entry only through this table's own `&mut self`.
-ghost use Rattle.std.specs.Prelude.{◌≡◌, ◌<◌};
+ghost use Rattle.std.specs.Prelude.{◌≡◌, Some, None, if◌then◌else◌, nat_lt};
 ghost use Rattle.states.specs.Entries.{entry_of, awake, started, with_entry, labelled, with_local, local_in};
 
 use kinds::Kind;
@@ -19,12 +19,14 @@ pub struct ThreadTable {
     pub entries: [ThreadEntry; 8],
 }
 
-fn create_in(entries: &mut [ThreadEntry], j: Thread)
-    ensures { entries.new ≡ with_entry entries.old j.0 (awake (entry_of entries.old j.0)) }
+// Where the entry of thread `i` is, if there is one.
+fn place(i: Thread) -> Option<usize>
+    ensures { result ≡ (if nat_lt i.0 8 then Some i.0 else None) }
 {
-    let at = j.0 as usize;
-    if at < entries.len() {
-        entries[at].created = true;
+    if i.0 < 8 {
+        Some(usize::from(i.0))
+    } else {
+        None
     }
 }
 
@@ -45,46 +47,57 @@ impl ThreadTable {
         table
     }
 
+    // The label of thread `i`, and 0 where there is no such thread.
     pub fn label(&self, i: Thread) -> Label
-        requires { i.0 < 8 }
         ensures { result ≡ (entry_of self.now.entries i.0).label }
     {
-        self.entries[usize::from(i.0)].label
+        match place(i) {
+            Some(at) => self.entries[at].label,
+            None => Label(0),
+        }
     }
 
     pub fn created(&self, i: Thread) -> bool
-        requires { i.0 < 8 }
         ensures { result ≡ (entry_of self.now.entries i.0).created }
     {
-        self.entries[i.0 as usize].created
+        match place(i) {
+            Some(at) => self.entries[at].created,
+            None => false,
+        }
     }
 
     // The code in local cell `n` of thread `i`, and the fresh code where there is none.
     pub fn local<V: Kind>(&self, i: Thread, n: u8) -> u32
-        requires { i.0 < 8 }
         ensures { result ≡ local_in V.meaning (entry_of self.now.entries i.0) n }
     {
-        item_or(&self.entries[i.0 as usize].locals, n, V::fresh_code())
+        match place(i) {
+            Some(at) => item_or(&self.entries[at].locals, n, V::fresh_code()),
+            None => V::fresh_code(),
+        }
     }
 
     pub fn set_local(&mut self, i: Thread, n: u8, c: u32)
-        requires { i.0 < 8 }
         ensures { self.new.entries ≡ with_entry self.old.entries i.0 (with_local (entry_of self.old.entries i.0) n c) }
     {
-        set_item(&mut self.entries[i.0 as usize].locals, n, c);
+        if let Some(at) = place(i) {
+            set_item(&mut self.entries[at].locals, n, c);
+        }
     }
 
     pub fn go_to(&mut self, i: Thread, t: Label)
-        requires { i.0 < 8 }
         ensures { self.new.entries ≡ with_entry self.old.entries i.0 (labelled (entry_of self.old.entries i.0) t) }
     {
-        self.entries[i.0 as usize].label = t;
+        if let Some(at) = place(i) {
+            self.entries[at].label = t;
+        }
     }
 
     // A thread that the table does not have cannot be created.
     pub fn create(&mut self, j: Thread)
         ensures { self.new.entries ≡ with_entry self.old.entries j.0 (awake (entry_of self.old.entries j.0)) }
     {
-        create_in(&mut self.entries, j);
+        if let Some(at) = place(j) {
+            self.entries[at].created = true;
+        }
     }
 }

@@ -1,5 +1,5 @@
 // The state of a run.
-ghost use Rattle.std.specs.Prelude.{◌≡◌, ◌<◌, ◌≤◌, length};
+ghost use Rattle.std.specs.Prelude.{◌≡◌, ◌≤◌, length};
 ghost use Rattle.tables.specs.Tables.{view};
 ghost use Rattle.states.specs.States.{value, put, mutex, mark, padded, beginning};
 
@@ -24,7 +24,8 @@ pub struct State {
     pub threads: ThreadTable,
 }
 
-// The initial codes, and the fresh code in the cells that the program does not have.
+// The initial codes, and the fresh code in the cells that the program does not have. Sixteen cells hold no longer list, so
+// none is asked of it: a total form would cut the list, and the callers' codes are never cut.
 pub fn initial_cells<V: Kind>(codes: &[u32]) -> [u32; 16]
     requires { length codes.now ≤ 16 }
     ensures { result ≡ padded V.meaning codes.now }
@@ -48,7 +49,6 @@ impl State {
 
     // The code that thread `i` reads at a place.
     pub fn value<V: Kind>(&self, i: Thread, p: Place) -> u32
-        requires { i.0 < 8 }
         ensures { result ≡ value V.meaning self.now i.0 p }
     {
         match p {
@@ -59,7 +59,6 @@ impl State {
 
     // Thread `i` writes a code to a place.
     pub fn put(&mut self, i: Thread, p: Place, c: u32)
-        requires { i.0 < 8 }
         ensures { self.new ≡ put self.old i.0 p c }
     {
         match p {

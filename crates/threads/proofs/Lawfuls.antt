@@ -1,5 +1,5 @@
 -- A run of a well-formed program holds lawful codes only.
-use Rattle.std.proofs.Common.{◌≡◌, ℕ, zero, suc, ◌+◌, Bool, true, false, cond, eqb, ltb, List, [], ◌∷◌, length, take, drop, replicate, Some, None, Option, sym, subst}
+use Rattle.std.proofs.Common.{◌≡◌, ℕ, zero, suc, ◌+◌, Bool, true, false, cond, eqb, ltb, List, [], ◌∷◌, length, take, drop, replicate, Some, None, Option, sym, subst, Ok, Err}
 use Rattle.std.specs.List.{AllByRecursion, slice_get}
 use Rattle.std.proofs.ByRecursion.{All-append, All-set, All-take, All-drop}
 use Rattle.std.proofs.lemmas.List.{take-append-drop}
@@ -15,8 +15,8 @@ use Rattle.tables.specs.WellFormed.{Counts, Fit, Numbered, Threads, WellFormed}
 use Rattle.threads.specs.declared.effect.Effect.{Effect}
 use Rattle.threads.specs.declared.effect.Effect.TheVariants.{Fail, Block, Pass, GoTo, Write, Mark, Create}
 use Rattle.threads.specs.declared.slot.Slot.{Slot}
-use Rattle.threads.specs.declared.slot.SlotEnd.{SlotEnd}
-use Rattle.threads.specs.declared.slot.SlotEnd.TheVariants as end
+use Rattle.reports.specs.Stops.{End}
+use Rattle.reports.specs.declared.stop.Stop.TheVariants as end
 use Rattle.states.specs.declared.state.MutexState.{MutexState}
 use Rattle.states.specs.declared.state.MutexState.TheVariants.{Free, Destroyed, Held}
 use Rattle.states.specs.declared.state.State.{State}
@@ -184,12 +184,12 @@ module _ (k : Meaning) (laws : Lawful k) where
 
     lawful_serve : (i : ℕ) (s : State) (n : ℕ) → LawfulState k s → LawfulState k (serve k p i s n).state
     lawful_serve i s n h =
-        elim (ltb (bound p s i) n) as (λ b. LawfulState k (cond b (ran (slot_of end.Cut 0) s) (run k p (thread i) n 0 s)).state) [ true ↦ h | false ↦ lawful_run (thread i) n 0 s h ]
+        elim (ltb (bound p s i) n) as (λ b. LawfulState k (cond b (ran (slot_of (Err end.Cut) 0) s) (run k p (thread i) n 0 s)).state) [ true ↦ h | false ↦ lawful_run (thread i) n 0 s h ]
 
-    lawful_closed : (r : Ran) (more : State → Played) (e : SlotEnd) → LawfulState k r.state → LawfulState k (more r.state).state → LawfulState k (closed r more e).state
-    lawful_closed r more end.Done g h = h
-    lawful_closed r more end.Failed g h = g
-    lawful_closed r more end.Cut g h = g
+    lawful_closed : (r : Ran) (more : State → Played) (e : End) → LawfulState k r.state → LawfulState k (more r.state).state → LawfulState k (closed r more e).state
+    lawful_closed r more (Ok tt) g h = h
+    lawful_closed r more (Err end.Failed) g h = g
+    lawful_closed r more (Err end.Cut) g h = g
 
     lawful_served : (i : ℕ) (s : State) (more : State → List ℕ → Played) (ns : List ℕ) → ((s : State) (ns : List ℕ) → LawfulState k s → LawfulState k (more s ns).state) → LawfulState k s → LawfulState k (served k p i s more ns).state
     lawful_served i s more [] g h = h

@@ -1,5 +1,5 @@
 -- The rules of slots make a runner: its laws, for any way to serve a slot and any bound.
-use Rattle.std.specs.Prelude.{◌≡◌, ℕ, ◌<◌, ◌≤◌, true, false, cond, List, [], ◌∷◌, ◌++◌, length, ◌≢◌}
+use Rattle.std.specs.Prelude.{◌≡◌, ℕ, ◌<◌, ◌≤◌, true, false, cond, List, [], ◌∷◌, ◌++◌, length, ◌≢◌, Ok, Err}
 use Rattle.std.proofs.Math.Path.{refl, ap}
 use Rattle.std.proofs.Common.{sym, subst, ◌∙◌, ⊎_elim, arith}
 use Rattle.std.proofs.lemmas.Bool.{cases_Bool}
@@ -11,8 +11,8 @@ use Rattle.walks.specs.declared.outcome.Outcome.{Outcome}
 use Rattle.walks.specs.declared.outcome.Outcome.TheVariants.{Open, Ended}
 use Rattle.walks.specs.Outcomes.{IsOpen}
 use Rattle.walks.specs.Runs.{Lawful}
-use Rattle.threads.specs.declared.slot.SlotEnd.{SlotEnd}
-use Rattle.threads.specs.declared.slot.SlotEnd.TheVariants.{Done, Failed, Cut}
+use Rattle.reports.specs.Stops.{End}
+use Rattle.reports.specs.declared.stop.Stop.TheVariants.{Failed, Cut}
 use Rattle.threads.specs.Plays.{closed, served_by, rounds_by}
 use Rattle.threads.specs.Slots.{Ran}
 
@@ -25,7 +25,7 @@ module _ (way : ℕ → State → ℕ → Ran) (top : State → ℕ → ℕ) whe
   out sl s l = (rounds_by way top sl s l).outcome
 
   -- a slot of a thread that is created with its number: `more` is what follows
-  abbrev after_slot : List ℕ → List ℕ → Ran → SlotEnd → Outcome
+  abbrev after_slot : List ℕ → List ℕ → Ran → End → Outcome
   after_slot rest l r e = (closed r (λ s. rounds_by way top rest s l) e).outcome
 
   out_over : (s : State) (l : List ℕ) → out [] s l ≡ Ended ending.Full
@@ -62,10 +62,10 @@ module _ (way : ℕ → State → ℕ → Ran) (top : State → ℕ → ℕ) whe
   not_open : (o : Outcome) (b : ℕ) → o ≡ Open b → (IsOpen o → ⊥) → ⊥
   not_open o b e h = h (subst IsOpen (sym e) tt)
 
-  keeps_slot : (rest l m : List ℕ) (r : Ran) (e : SlotEnd) → (IsOpen (after_slot rest l r e) → ⊥) → ((IsOpen (out rest r.state l) → ⊥) → out rest r.state (l ++ m) ≡ out rest r.state l) → after_slot rest (l ++ m) r e ≡ after_slot rest l r e
-  keeps_slot rest l m r Done h more = more h
-  keeps_slot rest l m r Failed h more = refl
-  keeps_slot rest l m r Cut h more = refl
+  keeps_slot : (rest l m : List ℕ) (r : Ran) (e : End) → (IsOpen (after_slot rest l r e) → ⊥) → ((IsOpen (out rest r.state l) → ⊥) → out rest r.state (l ++ m) ≡ out rest r.state l) → after_slot rest (l ++ m) r e ≡ after_slot rest l r e
+  keeps_slot rest l m r (Ok tt) h more = more h
+  keeps_slot rest l m r (Err Failed) h more = refl
+  keeps_slot rest l m r (Err Cut) h more = refl
 
   -- a list that ended keeps its outcome
   keeps : (m sl : List ℕ) (s : State) (l : List ℕ) → (IsOpen (out sl s l) → ⊥) → out sl s (l ++ m) ≡ out sl s l
@@ -85,12 +85,12 @@ module _ (way : ℕ → State → ℕ → Ran) (top : State → ℕ → ℕ) whe
     bound : top state thread ≡ b
     on : (m : List ℕ) → out sl s (l ++ m) ≡ out (thread ∷ rest) state m
 
-  number_at : (i : ℕ) (rest : List ℕ) (s : State) (n : ℕ) (l : List ℕ) (b : ℕ) → (out rest (way i s n).state l ≡ Open b → At rest (way i s n).state l b) → (e : SlotEnd) → ((m : List ℕ) → out (i ∷ rest) s (n ∷ m) ≡ after_slot rest m (way i s n) e) → out (i ∷ rest) s (n ∷ l) ≡ Open b → At (i ∷ rest) s (n ∷ l) b
-  number_at i rest s n l b more Done on o =
+  number_at : (i : ℕ) (rest : List ℕ) (s : State) (n : ℕ) (l : List ℕ) (b : ℕ) → (out rest (way i s n).state l ≡ Open b → At rest (way i s n).state l b) → (e : End) → ((m : List ℕ) → out (i ∷ rest) s (n ∷ m) ≡ after_slot rest m (way i s n) e) → out (i ∷ rest) s (n ∷ l) ≡ Open b → At (i ∷ rest) s (n ∷ l) b
+  number_at i rest s n l b more (Ok tt) on o =
       let a = more (sym (on l) ∙ o) in
       record { thread = a.thread; rest = a.rest; state = a.state; exists = a.exists; bound = a.bound; on = λ m. on (l ++ m) ∙ a.on m }
-  number_at i rest s n l b more Failed on o = apart ending.Failed b (sym (on l) ∙ o)
-  number_at i rest s n l b more Cut on o = apart ending.Cut b (sym (on l) ∙ o)
+  number_at i rest s n l b more (Err Failed) on o = apart ending.Failed b (sym (on l) ∙ o)
+  number_at i rest s n l b more (Err Cut) on o = apart ending.Cut b (sym (on l) ∙ o)
 
   opened : (b : ℕ) (sl : List ℕ) (s : State) (l : List ℕ) → out sl s l ≡ Open b → At sl s l b
   opened b =
@@ -110,15 +110,15 @@ module _ (way : ℕ → State → ℕ → Ran) (top : State → ℕ → ℕ) whe
   never_fails (i ∷ rest) s o =
       ⊎_elim (λ (e : created s i ≡ true). apart ending.Failed (top s i) (sym o ∙ out_ask i rest s e)) (λ (e : created s i ≡ false). never_fails rest s (sym (out_skip i rest s [] e) ∙ o)) (cases_Bool (created s i))
 
-  failed_end : (rest : List ℕ) (r : Ran) (e : SlotEnd) → after_slot rest [] r e ≡ Ended ending.Failed → e ≡ Failed
-  failed_end rest r Done o = absurd (never_fails rest r.state o)
-  failed_end rest r Failed o = refl
-  failed_end rest r Cut o = absurd (let z : ◌≡◌ {A = ℕ} 0 1 = cc in omega arith)
+  failed_end : (rest : List ℕ) (r : Ran) (e : End) → after_slot rest [] r e ≡ Ended ending.Failed → e ≡ (Err Failed)
+  failed_end rest r (Ok tt) o = absurd (never_fails rest r.state o)
+  failed_end rest r (Err Failed) o = refl
+  failed_end rest r (Err Cut) o = absurd (let z : ◌≡◌ {A = ℕ} 0 1 = cc in omega arith)
 
-  short_slot : (rest l : List ℕ) (r : Ran) (e : SlotEnd) → (IsOpen (out rest r.state l) → ⊥) → IsOpen (after_slot rest l r e) → ⊥
-  short_slot rest l r Done h o = h o
-  short_slot rest l r Failed h o = o
-  short_slot rest l r Cut h o = o
+  short_slot : (rest l : List ℕ) (r : Ran) (e : End) → (IsOpen (out rest r.state l) → ⊥) → IsOpen (after_slot rest l r e) → ⊥
+  short_slot rest l r (Ok tt) h o = h o
+  short_slot rest l r (Err Failed) h o = o
+  short_slot rest l r (Err Cut) h o = o
 
   short : (sl : List ℕ) (s : State) (l : List ℕ) → length sl ≤ length l → IsOpen (out sl s l) → ⊥
   short =
@@ -129,8 +129,8 @@ module _ (way : ℕ → State → ℕ → Ran) (top : State → ℕ → ℕ) whe
       (λ i rest s n l e more le o. short_slot rest l (way i s n) (way i s n).slot.end (more (omega arith)) (subst IsOpen (out_number i rest s n l e) o))
 
   module _ (small : (s : State) (i : ℕ) → top s i ≤ 255)
-      (over : (i : ℕ) (s : State) (n : ℕ) → top s i < n → (way i s n).slot.end ≡ Cut)
-      (up : (i : ℕ) (s : State) (n m : ℕ) → n ≤ m → m ≤ top s i → (way i s n).slot.end ≡ Failed → (way i s m).slot.end ≡ Failed)
+      (over : (i : ℕ) (s : State) (n : ℕ) → top s i < n → (way i s n).slot.end ≡ (Err Cut))
+      (up : (i : ℕ) (s : State) (n m : ℕ) → n ≤ m → m ≤ top s i → (way i s n).slot.end ≡ (Err Failed) → (way i s m).slot.end ≡ (Err Failed))
       (sl : List ℕ) (s : State) (few : length sl ≤ 64) (start : IsOpen (out sl s [])) where
     last_number : (l : List ℕ) (b n : ℕ) (a : At sl s l b) → out sl s (l ++ n ∷ []) ≡ after_slot a.rest [] (way a.thread a.state n) (way a.thread a.state n).slot.end
     last_number l b n a = a.on (n ∷ []) ∙ out_number a.thread a.rest a.state n [] a.exists

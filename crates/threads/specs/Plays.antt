@@ -1,14 +1,14 @@
 -- A run over a schedule: the rules of rounds and slots.
-use Rattle.std.specs.Prelude.{ℕ, ◌-◌, cond, List, [], ◌∷◌, length, take, nat_lt}
+use Rattle.std.specs.Prelude.{ℕ, ◌-◌, cond, List, [], ◌∷◌, length, take, nat_lt, Ok, Err}
 use Rattle.kinds.specs.Meaning.{Meaning}
 use Rattle.records.specs.declared.statement.Thread.{Thread}
 use Rattle.tables.specs.Program.{Program, size}
 use Rattle.tables.specs.Slots.{slot_total, program_slots}
-use Rattle.walks.specs.declared.outcome.Ending.TheVariants.{Failed, Cut, Full}
+use Rattle.walks.specs.declared.outcome.Ending.TheVariants.{Full}
 use Rattle.walks.specs.declared.outcome.Outcome.{Outcome}
 use Rattle.walks.specs.declared.outcome.Outcome.TheVariants.{Open, Ended}
-use Rattle.threads.specs.declared.slot.SlotEnd.{SlotEnd}
-use Rattle.threads.specs.declared.slot.SlotEnd.TheVariants as end
+use Rattle.reports.specs.Stops.{End, ending}
+use Rattle.reports.specs.declared.stop.Stop.TheVariants as end
 use Rattle.states.specs.declared.state.State.{State}
 use Rattle.threads.specs.Slots.{Ran, ran, run, slot_of}
 use Rattle.states.specs.States.{label, created, beginning}
@@ -35,13 +35,12 @@ bound p s i = size p i - label s i
 
 -- thread i's slot with the number n; one above the bound cuts the run before the slot begins
 abbrev pub serve : Meaning → Program → ℕ → State → ℕ → Ran
-serve k p i s n = cond (nat_lt (bound p s i) n) (ran (slot_of end.Cut 0) s) (run k p (thread i) n 0 s)
+serve k p i s n = cond (nat_lt (bound p s i) n) (ran (slot_of (Err end.Cut) 0) s) (run k p (thread i) n 0 s)
 
 -- behind a slot that ended so; `more` is the rest of the run
-abbrev pub closed : Ran → (State → Played) → SlotEnd → Played
-closed r more end.Done = prefixed r.slot.count.0 (more r.state)
-closed r more end.Failed = played (Ended Failed) (r.slot.count.0 ∷ []) r.state
-closed r more end.Cut = played (Ended Cut) (r.slot.count.0 ∷ []) r.state
+abbrev pub closed : Ran → (State → Played) → End → Played
+closed r more (Ok _) = prefixed r.slot.count.0 (more r.state)
+closed r more (Err e) = played (Ended (ending e)) (r.slot.count.0 ∷ []) r.state
 
 -- The rules of slots, for any way to serve a slot and any bound: a slot that exists, with the numbers left.
 abbrev pub served_by : (ℕ → State → ℕ → Ran) → (State → ℕ → ℕ) → ℕ → State → (State → List ℕ → Played) → List ℕ → Played

@@ -1,22 +1,22 @@
 -- What a statement leaves behind.
-use Rattle.std.specs.Prelude.{ℕ, ◌+◌}
+use Rattle.std.specs.Prelude.{ℕ, ◌+◌, Ok, Err}
 use Rattle.records.specs.declared.statement.Label.{Label}
 use Rattle.records.specs.declared.statement.Thread.{Thread}
 use Rattle.threads.specs.declared.effect.Effect.{Effect}
 use Rattle.threads.specs.declared.effect.Effect.TheVariants.{Fail, Block, Pass, GoTo, Write, Mark, Create}
 use Rattle.states.specs.declared.state.State.{State}
-use Rattle.threads.specs.declared.step.Progress.{Progress}
-use Rattle.threads.specs.declared.step.Progress.TheVariants.{CarriedOut, Failed, Blocked}
+use Rattle.reports.specs.Stops.{End}
+use Rattle.reports.specs.declared.stop.Stop.TheVariants.{Failed, Cut}
 use Rattle.states.specs.States.{label, go, put, mark, create}
 
-abbrev pub progress : Effect → Progress
-progress Fail = Failed
-progress Block = Blocked
-progress Pass = CarriedOut
-progress (GoTo t) = CarriedOut
-progress (Write d c) = CarriedOut
-progress (Mark m h) = CarriedOut
-progress (Create j) = CarriedOut
+abbrev pub progress : Effect → End
+progress Fail = (Err Failed)
+progress Block = (Err Cut)
+progress Pass = (Ok tt)
+progress (GoTo t) = (Ok tt)
+progress (Write d c) = (Ok tt)
+progress (Mark m h) = (Ok tt)
+progress (Create j) = (Ok tt)
 
 -- the label behind thread i's statement
 abbrev pub following : State → ℕ → Label

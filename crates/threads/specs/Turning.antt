@@ -1,5 +1,5 @@
 -- A run goes on from a point by one number.
-use Rattle.std.specs.Prelude.{◌≡◌, ℕ, zero, suc, ◌+◌, ◌-◌, ◌%◌, ◌<◌, ◌≤◌, true, false, cond, List, [], ◌∷◌, drop, nat_lt, refl}
+use Rattle.std.specs.Prelude.{◌≡◌, ℕ, zero, suc, ◌+◌, ◌-◌, ◌%◌, ◌<◌, ◌≤◌, true, false, cond, List, [], ◌∷◌, drop, nat_lt, refl, Ok, Err}
 use Rattle.std.proofs.Common.{sym, ◌∙◌, inl, inr, arith}
 use Rattle.std.proofs.Math.Path.{ap}
 use Rattle.std.proofs.lemmas.List.FromFn.{length-map-range_with_len, get_or-map-range_with_len}
@@ -10,15 +10,16 @@ use Rattle.tables.specs.Program.{Program}
 use Rattle.walks.specs.declared.outcome.Ending.TheVariants.{Full}
 use Rattle.walks.specs.declared.outcome.Outcome.{Outcome}
 use Rattle.walks.specs.declared.outcome.Outcome.TheVariants.{Open, Ended}
+use Rattle.reports.specs.Players.{Turned}
 use Rattle.threads.specs.declared.point.Point.{Point}
-use Rattle.threads.specs.declared.slot.SlotEnd.{SlotEnd}
-use Rattle.threads.specs.declared.slot.SlotEnd.TheVariants as end
+use Rattle.reports.specs.Stops.{End}
+use Rattle.reports.specs.declared.stop.Stop.TheVariants as end
 use Rattle.states.specs.declared.state.State.{State}
 use Rattle.tables.specs.Slots.{slots, program_slots}
 use Rattle.threads.specs.Plays.{Played, played, prefixed, bound, serve, closed, served, rounds_by, rounds}
 use Rattle.threads.specs.Slots.{Ran}
 use Rattle.states.specs.States.{created}
-use Rattle.threads.specs.Turns.{width, seek, point, landed, standing, Turned, turned_so, turn, Stands, rest}
+use Rattle.threads.specs.Turns.{width, seek, point, landed, standing, turned_so, turn, Stands, rest}
 use Rattle.threads.specs.Seeks.{seek_found, seek_past, seek_none}
 
 pub slots_more : (t n q : ℕ) → q < n → drop q (slots t n) ≡ q % t ∷ drop (q + 1) (slots t n)
@@ -79,30 +80,30 @@ module _ (k : Meaning) (p : Program) (n : ℕ) where
   landed_stands q s h = lands (n - q) q s (omega arith)
 
   -- what follows a turn: `more` is the run from the point that it came to
-  abbrev pub followed : Turned → (Point → Played) → Outcome → Played
-  followed t more (Open b) = prefixed t.turn.count.0 (more t.point)
-  followed t more (Ended e) = played (Ended e) (t.turn.count.0 ∷ []) t.point.state
+  abbrev pub followed : Turned Point → (Point → Played) → Outcome → Played
+  followed t more (Open b) = prefixed t.count (more t.point)
+  followed t more (Ended e) = played (Ended e) (t.count ∷ []) t.point.state
 
-  onward : (t : Turned) (ns : List ℕ) → t.turn.outcome ≡ standing p n t.point → prefixed t.turn.count.0 (rest k p n t.point ns) ≡ followed t (λ at. rest k p n at ns) t.turn.outcome
+  onward : (t : Turned Point) (ns : List ℕ) → t.outcome ≡ standing p n t.point → prefixed t.count (rest k p n t.point ns) ≡ followed t (λ at. rest k p n at ns) t.outcome
   onward t ns e =
       rw e
       (cond_both (nat_lt t.point.slot n) (Open (bound p t.point.state (t.point.slot % width p))) (Ended Full)
-      (λ o. prefixed t.turn.count.0 (rest k p n t.point ns) ≡ followed t (λ at. rest k p n at ns) o)
+      (λ o. prefixed t.count (rest k p n t.point ns) ≡ followed t (λ at. rest k p n at ns) o)
       (λ _. refl)
-      (λ l. ap (prefixed t.turn.count.0) (rest_full t.point ns (ltb-false t.point.slot n l))))
+      (λ l. ap (prefixed t.count) (rest_full t.point ns (ltb-false t.point.slot n l))))
 
-  closing : (q : ℕ) (ns : List ℕ) (r : Ran) (e : SlotEnd) → q < n → closed r (λ s. rounds k p (drop (q + 1) (program_slots p n)) s ns) e ≡ followed (turned_so p n q r e) (λ at. rest k p n at ns) (turned_so p n q r e).turn.outcome
-  closing q ns r end.Done h =
-      ap (prefixed r.slot.count.0) (rest_landed (q + 1) r.state ns (omega arith)) ∙ onward (turned_so p n q r end.Done) ns refl
-  closing q ns r end.Failed h = refl
-  closing q ns r end.Cut h = refl
+  closing : (q : ℕ) (ns : List ℕ) (r : Ran) (e : End) → q < n → closed r (λ s. rounds k p (drop (q + 1) (program_slots p n)) s ns) e ≡ followed (turned_so p n q r e) (λ at. rest k p n at ns) (turned_so p n q r e).outcome
+  closing q ns r (Ok tt) h =
+      ap (prefixed r.slot.count.0) (rest_landed (q + 1) r.state ns (omega arith)) ∙ onward (turned_so p n q r (Ok tt)) ns refl
+  closing q ns r (Err end.Failed) h = refl
+  closing q ns r (Err end.Cut) h = refl
 
   pub turn_there : (at : Point) (g : ℕ) → at.slot < n → turn k p n at g ≡ turned_so p n at.slot (serve k p (at.slot % width p) at.state g) (serve k p (at.slot % width p) at.state g).slot.end
   turn_there at g h = rw (lt-ltb at.slot n h) refl
 
-  pub rest_turn : (at : Point) (g : ℕ) (ns : List ℕ) → Stands p n at → at.slot < n → rest k p n at (g ∷ ns) ≡ followed (turn k p n at g) (λ at'. rest k p n at' ns) (turn k p n at g).turn.outcome
+  pub rest_turn : (at : Point) (g : ℕ) (ns : List ℕ) → Stands p n at → at.slot < n → rest k p n at (g ∷ ns) ≡ followed (turn k p n at g) (λ at'. rest k p n at' ns) (turn k p n at g).outcome
   rest_turn at g ns w h =
       let r = serve k p (at.slot % width p) at.state g in
       rest_there at (g ∷ ns) h (w.exists h)
       ∙ closing at.slot ns r r.slot.end h
-      ∙ ap (λ (t : Turned). followed t (λ at'. rest k p n at' ns) t.turn.outcome) (sym (turn_there at g h))
+      ∙ ap (λ (t : Turned Point). followed t (λ at'. rest k p n at' ns) t.outcome) (sym (turn_there at g h))

@@ -1,48 +1,20 @@
 // One number at a point: the slot that is due, and the way to the next one that exists.
 ghost use Rattle.std.specs.Prelude.{◌≡◌, ◌+◌, ◌-◌, ◌*◌, ◌%◌, ◌<◌, ◌≤◌};
-ghost use Rattle.tables.specs.Tables.{view};
+ghost use Rattle.reports.specs.Players.{with_point};
 ghost use Rattle.threads.specs.Machines.{program, total};
 ghost use Rattle.threads.specs.Plays.{bound as most, serve as served_so};
 ghost use Rattle.threads.specs.Slots.{ran};
-ghost use Rattle.threads.specs.Turns.{width, seek as first_existing, standing as stands_as, turn as turned_by, with_point, first as at_first};
+ghost use Rattle.threads.specs.Turns.{width, seek as first_existing, standing as stands_as, turn as turned_by, first as at_first};
 
 use crate::machine::Machine;
 use crate::point::Point;
-use crate::slot::{Slot, SlotCount, SlotEnd, run_slot};
+use crate::slot::{Slot, SlotCount};
 use kinds::Kind;
 use records::statement::Thread;
+use reports::report::Turn;
+use reports::stop::Stop;
 use states::state::State;
-use tables::table::Table;
 use walks::outcome::{Ending, Outcome};
-
-// What a number came to: the statements carried out in its slot, and how the run stands then.
-#[derive(Clone, Copy)]
-pub struct Turn {
-    pub count: SlotCount,
-    pub outcome: Outcome,
-}
-
-// The most statements that thread `i` can carry out.
-fn bound(state: &State, table: &Table, i: Thread) -> u8
-    requires { i.0 < 8 }
-    ensures { result ≡ most (view table.now) state.now i.0 }
-{
-    table.size(i).saturating_sub(state.threads.label(i).0)
-}
-
-// Thread `i`'s slot with the number `n`.
-fn serve<V: Kind>(state: &mut State, table: &Table, i: Thread, n: SlotCount) -> Slot
-    requires { i.0 < 8 }
-    ensures { ran result state.new ≡ served_so V.meaning (view table.now) i.0 state.old n.0 }
-{
-    if n.0 > bound(state, table, i) {
-        return Slot {
-            end: SlotEnd::Cut,
-            count: SlotCount(0),
-        };
-    }
-    run_slot::<V>(state, table, i, n)
-}
 
 impl<V: Kind> Machine<V> {
     // How many slots a run has.
@@ -56,10 +28,31 @@ impl<V: Kind> Machine<V> {
     // The thread that has slot `q`.
     fn thread_at(&self, q: u8) -> Thread
         requires { q < total self.now }
-        ensures value { result.0 ≡ q % width (program self.now) }
-        ensures few { result.0 < 8 }
+        ensures { result.0 ≡ q % width (program self.now) }
     {
         Thread(q % self.table.threads())
+    }
+}
+
+impl<V: Kind> Machine<V> {
+    // The most statements that thread `i` can carry out.
+    fn bound(&self, state: &State, i: Thread) -> u8
+        ensures { result ≡ most (program self.now) state.now i.0 }
+    {
+        self.table.size(i).saturating_sub(state.threads.label(i).0)
+    }
+
+    // Thread `i`'s slot with the number `n`.
+    fn serve(&self, state: &mut State, i: Thread, n: SlotCount) -> Slot
+        ensures { ran result state.new ≡ served_so V.meaning (program self.now) i.0 state.old n.0 }
+    {
+        if n.0 > self.bound(state, i) {
+            return Slot {
+                end: Err(Stop::Cut),
+                count: SlotCount(0),
+            };
+        }
+        self.run_slot(state, i, n)
     }
 }
 
@@ -70,12 +63,9 @@ impl<V: Kind> Machine<V> {
         ensures { result ≡ first_existing (program self.now) state.now (total self.now - from) from }
     {
         let slots = self.slots();
-        for q in from..slots {
-            if state.threads.created(self.thread_at(q)) {
-                return q;
-            }
-        }
-        slots
+        (from..slots)
+            .find(|q| state.threads.created(self.thread_at(*q)))
+            .unwrap_or(slots)
     }
 
     // What a run comes to that stands at a point, with no number left.
@@ -83,7 +73,7 @@ impl<V: Kind> Machine<V> {
         ensures { result ≡ stands_as (program self.now) (total self.now) at.now }
     {
         if at.slot < self.slots() {
-            Outcome::Open(bound(&at.state, &self.table, self.thread_at(at.slot)))
+            Outcome::Open(self.bound(&at.state, self.thread_at(at.slot)))
         } else {
             Outcome::Ended(Ending::Full)
         }
@@ -104,29 +94,22 @@ impl<V: Kind> Machine<V> {
     {
         if at.slot >= self.slots() {
             return Turn {
-                count: SlotCount(0),
+                count: 0,
                 outcome: Outcome::Ended(Ending::Full),
             };
         }
         let i = self.thread_at(at.slot);
-        let slot = serve::<V>(&mut at.state, &self.table, i, SlotCount(number));
-        let count = slot.count;
-        match slot.end {
-            SlotEnd::Failed => Turn {
-                count,
-                outcome: Outcome::Ended(Ending::Failed),
-            },
-            SlotEnd::Cut => Turn {
-                count,
-                outcome: Outcome::Ended(Ending::Cut),
-            },
-            SlotEnd::Done => {
+        let slot = self.serve(&mut at.state, i, SlotCount(number));
+        let outcome = match slot.end {
+            Err(stop) => Outcome::Ended(stop.into()),
+            Ok(()) => {
                 at.slot = self.seek(&at.state, at.slot + 1);
-                Turn {
-                    count,
-                    outcome: self.standing(at),
-                }
+                self.standing(at)
             }
+        };
+        Turn {
+            count: slot.count.0,
+            outcome,
         }
     }
 }

@@ -1,4 +1,4 @@
-use Rattle.sequences.specs.Strides.{with_point}
+use Rattle.reports.specs.Players.{with_point}
 use Rattle.guesses.specs.Runners.{step_lands}
 use Rattle.guesses.proofs.runner.SequentialMachineRunner.step.Goals as goal
 

@@ -1,6 +1,6 @@
 use Rattle.std.proofs.Common.{◌<◌, ◌≤◌, length, sym, ap, ◌∙◌, arith}
 use Rattle.sequences.specs.Sequences.{instructions, guide_of}
-use Rattle.sequences.specs.Strides.{with_point}
+use Rattle.reports.specs.Players.{with_point}
 use Rattle.sequences.proofs.Strides.{proceed_after, proceed_none}
 use Rattle.sequences.proofs.sequence.Sequence.proceed.Goals as goal
 

@@ -1,34 +1,14 @@
-use Rattle.std.proofs.Common.{◌≡◌, ◌<◌, ◌≤◌, sym, ap, ◌∙◌, arith}
-use Rattle.tables.specs.Tables.{view}
-use Rattle.tables.specs.Slots.{slot_total}
+use Rattle.std.proofs.Common.{rules, ◌≡◌, ◌%◌, true, false, ◌∙◌}
+use Rattle.std.proofs.lemmas.Iterator.{first_from_Range}
 use Rattle.states.specs.States.{created}
-use Rattle.threads.specs.Seeks.{seek_found, seek_past, seek_none}
+use Rattle.threads.specs.Machines.{program, total}
+use Rattle.threads.specs.Turns.{width}
+use Rattle.threads.specs.Seeks.{seek_first}
 use Rattle.threads.proofs.machine.Machine.seek.Goals as goal
-
-pub returns-then-created : goal.returns-then-created
-returns-then-created g c =
-    let p = view c.args.self.now.table in
-    let s = c.args.state.now in
-    let n = slot_total p c.args.self.now.rounds in
-    let q = c.loop-q.q in
-    let l : q < n = omega (arith, c.slots-slots.ensures.value) in
-    sym (c.loop-q.invariant ∙ seek_found p s n q l (sym (ap (created s) c.thread_at.ensures.value) ∙ sym c.created.ensures ∙ c.if-created.true))
-
-pub loop-q-preserved : goal.loop-q-preserved
-loop-q-preserved g c =
-    let p = view c.args.self.now.table in
-    let s = c.args.state.now in
-    let n = slot_total p c.args.self.now.rounds in
-    let q = c.loop-q.q in
-    let l : q < n = omega (arith, c.slots-slots.ensures.value) in
-    c.loop-q.invariant ∙ seek_past p s n q l (sym (ap (created s) c.thread_at.ensures.value) ∙ sym c.created.ensures ∙ c.if-created.false)
 
 pub returns : goal.returns
 returns g c =
-    let p = view c.args.self.now.table in
+    let p = program c.args.self.now in
     let s = c.args.state.now in
-    let n = slot_total p c.args.self.now.rounds in
-    let q = c.loop-q.q in
-    let l : n ≤ q = omega (arith, c.slots-slots.ensures.value) in
-    let e : c.slots-slots.result ≡ q = omega (arith, c.slots-slots.ensures.value, c.requires) in
-    e ∙ sym (c.loop-q.invariant ∙ seek_none p s n q l)
+    let f = first_from_Range _ _ _ c.find.result (λ q. created s (q % width p) ≡ true) (λ q. created s (q % width p) ≡ false) c.find.ensures.ran (λ x q h. search rules) (λ x q h. search rules) in
+    c.unwrap_or.ensures ∙ seek_first p s (total c.args.self.now) c.args.from c.slots-slots.result c.requires c.slots-slots.ensures.value c.find.result f

@@ -1,4 +1,4 @@
-use Rattle.threads.specs.Turns.{with_point}
+use Rattle.reports.specs.Players.{with_point}
 use Rattle.threads.specs.Runners.{step_lands}
 use Rattle.threads.proofs.runner.MachineRunner.step.Goals as goal
 
