@@ -1,5 +1,5 @@
 -- The instructions of one statement do what the statement does.
-use Rattle.std.specs.Prelude.{◌≡◌, ℕ, suc, ◌+◌, ◌-◌, ◌<◌, ◌≤◌, Bool, true, false, cond, ◌&&◌, List, ◌∷◌, ◌++◌, ◌==◌, nat_eq, nat_le, nat_lt, refl}
+use Rattle.std.specs.Prelude.{◌≡◌, ℕ, suc, ◌+◌, ◌-◌, ◌<◌, ◌≤◌, Bool, true, false, cond, ◌&&◌, List, ◌∷◌, ◌++◌, ◌==◌, nat_eq, nat_le, nat_lt, refl, Err}
 use Rattle.std.proofs.Common.{sym, ap, ap₂, subst, ◌∙◌, ⊎_elim, arith}
 use Rattle.std.proofs.lemmas.Bool.{eq-eqb, ne_eqb, cases_eq, lt-ltb, le-ltb, le-leb, and_from, and_right}
 use Rattle.kinds.specs.Meaning.{Meaning}
@@ -18,11 +18,11 @@ use Rattle.threads.specs.declared.effect.Effect.{Effect}
 use Rattle.threads.specs.declared.effect.Effect.TheVariants as effects
 use Rattle.threads.specs.Effects.{effect, taken, freed, ended}
 use Rattle.threads.specs.Plays.{thread}
+use Rattle.reports.specs.declared.stop.Stop.TheVariants as stop
 use Rattle.sequences.specs.declared.act.Act.{Act}
 use Rattle.sequences.specs.declared.act.Act.TheVariants.{On, Write, Mark, To, Fail, Stop}
 use Rattle.sequences.specs.declared.instruction.Instruction.{Instruction}
 use Rattle.sequences.specs.declared.instruction.Instruction.TheVariants as op
-use Rattle.sequences.specs.declared.section.SectionEnd.TheVariants as end
 use Rattle.sequences.specs.declared.state.SeqState.{SeqState}
 use Rattle.sequences.specs.Acts.{Called, called, act, whole}
 use Rattle.sequences.specs.Code.{inner, past, at, word}
@@ -55,8 +55,8 @@ module _ (k : Meaning) (p : Program) (i cs pc : ℕ) (A : ℕ → ℕ) (s : Stat
 
   -- what the run is after a statement whose instructions end before the address a
   abbrev pub follows : ℕ → Did → Called
-  follows a Fails = called end.Failed (d + 1) (held s)
-  follows a Blocks = called end.Cut d (held s)
+  follows a Fails = called (Err stop.Failed) (d + 1) (held s)
+  follows a Blocks = called (Err stop.Cut) d (held s)
   follows a (Steps s' t) = sweep k i rest a (A t - a) (d + 1) (held s')
 
   -- the run of these instructions from the address h
@@ -132,7 +132,7 @@ module _ (k : Meaning) (p : Program) (i cs pc : ℕ) (A : ℕ → ℕ) (s : Stat
       abbrev unlock_code : List Instruction
       unlock_code = op.Must (word w) (2 + i) ∷ op.Put (word w) 0 ∷ rest
 
-      not_held : (x : MutexState) → mutex s m.0 ≡ x → (lock_word x == 2 + i) ≡ false → from_here unlock_code ≡ called end.Failed (d + 1) (held s)
+      not_held : (x : MutexState) → mutex s m.0 ≡ x → (lock_word x == 2 + i) ≡ false → from_here unlock_code ≡ called (Err stop.Failed) (d + 1) (held s)
       not_held x e eb = sweep_at k i (op.Must (word w) (2 + i)) _ h d (held s) Fail (must x false e eb)
 
       unlocks : (x : MutexState) → mutex s m.0 ≡ x → A (suc (label s i)) ≡ suc (suc h) → from_here unlock_code ≡ follows (suc (suc h)) (did i s (freed x (thread i) m))

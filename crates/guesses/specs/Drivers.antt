@@ -34,7 +34,7 @@ use Rattle.guesses.specs.Paces.{until, pace, paces}
 use Rattle.guesses.specs.Entries.{Sized, sized_go, lab, go_go, go_stay}
 use Rattle.guesses.specs.Layouts.{ahead_section}
 use Rattle.guesses.specs.Onwards.{Onto, onto}
-use Rattle.guesses.specs.Sections.{shown, section_end, section_runs}
+use Rattle.guesses.specs.Sections.{shown, section_runs}
 use Rattle.guesses.specs.Seen.{seen, seen_active, seen_label, seen_stop, save_label, set_stop, seen_start, sized_start}
 use Rattle.guesses.specs.Dids.{Did, Fails, Blocks, Steps, did, does, counted, until_did}
 use Rattle.guesses.specs.Rules.{slot_skipped, slot_served, none_full}
@@ -209,7 +209,7 @@ module _ (k : Meaning) (p : Program) (w : WellFormed k p) (rounds : ℕ) where
       closes (Err slot_end.Failed) = moved r.slot.count.0 (Ended ending.Failed) (h + 1 + 1) (seen (go r.state i (lab (label s i))) to)
       closes (Err slot_end.Cut) = moved r.slot.count.0 (Ended ending.Cut) (h + 1 + 1) (seen (go r.state i (lab (label s i))) to)
 
-      returns : (steps : ℕ) → length (driver_from p rest (4 + h)) ≤ steps → (e : End) → r.slot.end ≡ e → returned (h + 1 + 1) (proceed k sq (suc steps)) (shown i (label s i) to r) (section_end e) ≡ closes e
+      returns : (steps : ℕ) → length (driver_from p rest (4 + h)) ≤ steps → (e : End) → r.slot.end ≡ e → returned (h + 1 + 1) (proceed k sq (suc steps)) (shown i (label s i) to r) e ≡ closes e
       returns steps enough (Ok tt) done =
           step_at steps (h + 1 + 1 + 1) r.slot.count.0 _ _ _ (at_save i rest h at)
           ∙ ap₂ (λ n x. proceed k sq steps n r.slot.count.0 x) (next_at i rest h at) (saves done)

@@ -1,6 +1,5 @@
 -- Where a sequential program stands after a list of guesses.
 use Rattle.std.specs.Prelude.{◌≡◌, ℕ, ◌≤◌, List, ◌++◌}
-use Rattle.kinds.specs.declared.kind.Kind.{Ghosts}
 use Rattle.kinds.specs.Meaning.{Meaning}
 use Rattle.tables.specs.Program.{Program}
 use Rattle.tables.specs.WellFormed.{WellFormed}
@@ -11,7 +10,7 @@ use Rattle.sequences.specs.Drives.{drive_from}
 use Rattle.sequences.specs.Sequences.{Holds, instructions, drives_so}
 
 -- It is the translation of a program that exists, over so many rounds.
-pub record Ready {V : Type 0} {G : Ghosts V} (k : Meaning) (s : Sequence V G) : Type 0 where
+pub record Ready {V : Type 0} (k : Meaning) (s : Sequence V) : Type 0 where
   pub program : Program
   pub rounds : ℕ
   pub exists : WellFormed k program
@@ -20,6 +19,6 @@ pub record Ready {V : Type 0} {G : Ghosts V} (k : Meaning) (s : Sequence V G) : 
   pub holds : Holds s program rounds
 
 -- The point is at the GUESS that waits after the list l: whatever numbers follow, the run goes on from there.
-pub record Follows {V : Type 0} {G : Ghosts V} (k : Meaning) (s : Sequence V G) (at : SeqPoint) (l : List ℕ) : Type 0 where
+pub record Follows {V : Type 0} (k : Meaning) (s : Sequence V) (at : SeqPoint) (l : List ℕ) : Type 0 where
   pub bound : ℕ
   pub on : (ns : List ℕ) → (drives_so k s (l ++ ns)).outcome ≡ (drive_from k (instructions s) (Open bound) at ns).outcome

@@ -2,7 +2,6 @@
 use Rattle.std.specs.Prelude.{◌≡◌, ℕ, ◌≤◌, List, [], ◌∷◌, ◌++◌}
 use Rattle.std.proofs.Math.Path.{refl, ap, fun_ext}
 use Rattle.std.proofs.Common.{sym, subst, ◌∙◌, append_assoc}
-use Rattle.kinds.specs.declared.kind.Kind.{Ghosts}
 use Rattle.kinds.specs.Meaning.{Meaning}
 use Rattle.tables.specs.Program.{Program}
 use Rattle.tables.specs.WellFormed.{WellFormed}
@@ -24,7 +23,7 @@ pub drive_lawful : (k : Meaning) (p : Program) → WellFormed k p → (rounds : 
 drive_lawful k p w rounds some few =
     subst Lawful (fun_ext (λ l. ap (λ (a : Answer). a.outcome) (sym (drives_paced k p w rounds l)))) (pace_lawful k p w rounds some few)
 
-module _ {V : Type 0} {G : Ghosts V} (k : Meaning) (s : Sequence V G) where
+module _ {V : Type 0} (k : Meaning) (s : Sequence V) where
   pub ready_lawful : Ready k s → Lawful (λ l. (drives_so k s l).outcome)
   ready_lawful r =
       subst Lawful (fun_ext (λ l. ap (λ (d : Driven). d.outcome) (sym (drives_translated k s r.program r.rounds l r.holds))))

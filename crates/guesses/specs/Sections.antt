@@ -1,5 +1,5 @@
 -- A section runs as its thread does up to a label.
-use Rattle.std.specs.Prelude.{◌≡◌, ℕ, zero, suc, ◌+◌, ◌-◌, ◌<◌, ◌≤◌, Bool, true, false, cond, ◌||◌, ◌⊎◌, List, [], ◌∷◌, ◌++◌, length, drop, nat_le, nat_lt, refl, Ok, Err}
+use Rattle.std.specs.Prelude.{◌≡◌, ℕ, zero, suc, ◌+◌, ◌-◌, ◌<◌, ◌≤◌, Bool, true, false, cond, ◌||◌, ◌⊎◌, List, [], ◌∷◌, ◌++◌, length, drop, nat_le, nat_lt, refl, Ok}
 use Rattle.std.proofs.Common.{sym, ap, ◌∙◌, inl, inr, ⊎_elim, arith}
 use Rattle.std.proofs.lemmas.Bool.{le-ltb, lt-ltb, le-leb, lt-leb, cases_lt, or_left, or_right, or_from}
 use Rattle.kinds.specs.Meaning.{Meaning}
@@ -8,16 +8,12 @@ use Rattle.states.specs.declared.state.State.{State}
 use Rattle.states.specs.States.{label, go}
 use Rattle.tables.specs.Program.{Program, size, own}
 use Rattle.tables.specs.WellFormed.{WellFormed}
-use Rattle.reports.specs.Stops.{End}
-use Rattle.reports.specs.declared.stop.Stop.TheVariants as slot
 use Rattle.threads.specs.Effects.{effect, effect_of, next}
 use Rattle.threads.specs.Plays.{thread}
 use Rattle.threads.specs.Slots.{Ran}
 use Rattle.sequences.specs.declared.act.Act.TheVariants.{On, To, Back, Stop}
 use Rattle.sequences.specs.declared.instruction.Instruction.{Instruction}
 use Rattle.sequences.specs.declared.instruction.Instruction.TheVariants as op
-use Rattle.sequences.specs.declared.section.SectionEnd.{SectionEnd}
-use Rattle.sequences.specs.declared.section.SectionEnd.TheVariants as end
 use Rattle.sequences.specs.declared.state.SeqState.{SeqState}
 use Rattle.sequences.specs.Acts.{Called, called}
 use Rattle.sequences.specs.Code as code
@@ -40,15 +36,9 @@ drop_length xs zero ys h e = omega (arith, ap length e)
 drop_length [] (suc l) ys h e = absurd (let z : ⊥ = omega arith in z)
 drop_length (x ∷ xs) (suc l) ys h e = omega (arith, drop_length xs l ys (omega arith) e)
 
--- how a section ends whose slot ends so
-abbrev pub section_end : End → SectionEnd
-section_end (Ok tt) = end.Returned
-section_end (Err slot.Failed) = end.Failed
-section_end (Err slot.Cut) = end.Cut
-
 -- a slot of thread i as its section shows it: the label is put back to pc, for it is saved only behind the section
 abbrev pub shown : (i pc cs : ℕ) → Ran → Called
-shown i pc cs r = called (section_end r.slot.end) r.slot.count.0 (seen (go r.state i (lab pc)) cs)
+shown i pc cs r = called r.slot.end r.slot.count.0 (seen (go r.state i (lab pc)) cs)
 
 module _ (k : Meaning) (p : Program) (w : WellFormed k p) (i : ℕ) (has : i < 8) (A : ℕ → ℕ) where
   abbrev B : List Statement → ℕ → List Instruction
@@ -79,11 +69,11 @@ module _ (k : Meaning) (p : Program) (w : WellFormed k p) (i : ℕ) (has : i < 8
       ∙ skip_over k i (G (suc l)) (B xs (suc l)) (then p i x h) a d q (omega arith)
       ∙ ap (λ n. sweep k i (B xs (suc l)) a n d q) none
 
-  back : (l h d : ℕ) (q : SeqState) → sweep k i (B [] l) h 0 d q ≡ called end.Returned d q
+  back : (l h d : ℕ) (q : SeqState) → sweep k i (B [] l) h 0 d q ≡ called (Ok tt) d q
   back l h d q = sweep_at k i op.Return [] h d q Back refl
 
   -- from the label cs on all hops are taken
-  slide_after : (cs : ℕ) (xs : List Statement) (l h d : ℕ) (q : SeqState) → word q stop_at ≡ cs → St xs l h → cs ≤ l → sweep k i (B xs l) h 0 d q ≡ called end.Returned d q
+  slide_after : (cs : ℕ) (xs : List Statement) (l h d : ℕ) (q : SeqState) → word q stop_at ≡ cs → St xs l h → cs ≤ l → sweep k i (B xs l) h 0 d q ≡ called (Ok tt) d q
   slide_after cs [] l h d q ec st le = back l h d q
   slide_after cs (x ∷ xs) l h d q ec st le =
       slide x xs l h d q st (or_right (nat_lt l (word q (saved i))) (nat_le (word q stop_at) l) (le-leb (word q stop_at) l (omega arith)))
@@ -234,7 +224,7 @@ module _ (k : Meaning) (p : Program) (w : WellFormed k p) (i : ℕ) (has : i < 8
     -- before the thread's own label all hops are taken
     slide_before : (xs : List Statement) (l h d : ℕ) → St xs l h → l ≤ label s i → l + length xs ≡ size p i → sweep k i (B xs l) h 0 d (seen s cs) ≡ result d
     slide_before [] l h d st le all =
-        back l h d (seen s cs) ∙ ap (called end.Returned d) stay ∙ sym (ap (shown i (label s i) cs) (until_at k p i s cs m d (omega arith)))
+        back l h d (seen s cs) ∙ ap (called (Ok tt) d) stay ∙ sym (ap (shown i (label s i) cs) (until_at k p i s cs m d (omega arith)))
     slide_before (x ∷ xs) l h d st le all =
         ⊎_elim
         (λ (lt : l < label s i).

@@ -1,15 +1,15 @@
 -- A section in one pass: jumps only go forward, so a run passes over its instructions once, and some are skipped.
-use Rattle.std.specs.Prelude.{◌≡◌, ℕ, zero, suc, ◌+◌, ◌-◌, ◌<◌, ◌≤◌, Bool, true, false, cond, List, [], ◌∷◌, ◌++◌, length, drop}
+use Rattle.std.specs.Prelude.{◌≡◌, ℕ, zero, suc, ◌+◌, ◌-◌, ◌<◌, ◌≤◌, Bool, true, false, cond, List, [], ◌∷◌, ◌++◌, length, drop, Ok, Err}
 use Rattle.std.proofs.Math.Path.{refl, ap}
 use Rattle.std.proofs.Common.{sym, ap₂, subst, ◌∙◌, zero-add, add-one, drop-drop}
 use native.Mathlib.Omega.{arith}
 use Rattle.std.proofs.lemmas.List.{drop_all}
 use Rattle.kinds.specs.Meaning.{Meaning}
+use Rattle.reports.specs.declared.stop.Stop.TheVariants as stop
 use Rattle.sequences.specs.declared.act.Act.{Act}
 use Rattle.sequences.specs.declared.act.Act.TheVariants.{On, Write, Mark, To, Back, Fail, Stop}
 use Rattle.sequences.specs.declared.instruction.Instruction.{Instruction}
 use Rattle.sequences.specs.declared.instruction.Instruction.TheVariants as op
-use Rattle.sequences.specs.declared.section.SectionEnd.TheVariants as end
 use Rattle.sequences.specs.declared.state.SeqState.{SeqState}
 use Rattle.sequences.specs.Acts as acts
 use Rattle.sequences.specs.Acts.{Called, called, act, fetched, exec, call, whole}
@@ -22,13 +22,13 @@ carried i h d q more (On c) = more 0 (cond c (d + 1) d) q
 carried i h d q more (Write p c) = more 0 (d + 1) (put q i p c)
 carried i h d q more (Mark w v) = more 0 (d + 1) (with_word q w.0 v)
 carried i h d q more (To c a) = more (a.0 - suc h) (cond c (d + 1) d) q
-carried i h d q more Back = called end.Returned d q
-carried i h d q more Fail = called end.Failed (d + 1) q
-carried i h d q more Stop = called end.Cut d q
+carried i h d q more Back = called (Ok tt) d q
+carried i h d q more Fail = called (Err stop.Failed) (d + 1) q
+carried i h d q more Stop = called (Err stop.Cut) d q
 
 -- a section's instructions from the address h on, the first `skip` of them passed over, after d statements
 unfoldable pub sweep : Meaning → (i : ℕ) → List Instruction → (h skip d : ℕ) → SeqState → Called
-sweep k i [] h skip d q = called end.Cut d q
+sweep k i [] h skip d q = called (Err stop.Cut) d q
 sweep k i (x ∷ xs) h (suc skip) d q = sweep k i xs (suc h) skip d q
 sweep k i (x ∷ xs) h zero d q = carried i h d q (sweep k i xs (suc h)) (act k i q x)
 

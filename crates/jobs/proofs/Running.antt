@@ -55,7 +55,7 @@ module _ {V : Type 0} {G : Ghosts V} (k : Meaning) (j : Job V G) (ns counts cell
   abbrev drives_as : List ℕ → Driven → Lent
   drives_as codes d = lent (refusal ns counts cells (length codes)) (record { report = sequences.reported d; counts = d.counts; cells = own_cells codes d.state }) counts cells
 
-  abbrev seq : Sequence V G
+  abbrev seq : Sequence V
   seq = j.sequential.sequence
 
   abbrev no_drive : Option Refusal

@@ -1,6 +1,5 @@
 -- The file of a translation: what it is, and how long.
 use Rattle.std.proofs.Common.{◌≡◌, ℕ, ◌+◌, ◌*◌, ◌<◌, ◌≤◌, List, [], ◌∷◌, ◌++◌, length, refl, ap, ◌∙◌, arith, length-append, length-take}
-use Rattle.kinds.specs.declared.kind.Kind.{Ghosts}
 use native.Mathlib.Nat.{min-le_left}
 use Rattle.kinds.specs.Meaning.{Meaning}
 use Rattle.tables.specs.declared.text.ThreadText.{ThreadText}
@@ -27,7 +26,7 @@ sections_same S R i n (t ∷ ts) e h =
     ∙ ap (λ bs. section_bytes (owner i t) (R i) ++ bs) (sections_same S R (i + 1) n ts (omega arith) h)
 
 -- what holds the translation is written as the translation
-pub emitted_translated : {V : Type 0} {G : Ghosts V} (byte : ℕ) (s : Sequence V G) (p : Program) (rounds : ℕ) → Holds s p rounds → emitted_of byte p rounds (guide_of s) (sections_of s) ≡ emitted byte p rounds
+pub emitted_translated : {V : Type 0} (byte : ℕ) (s : Sequence V) (p : Program) (rounds : ℕ) → Holds s p rounds → emitted_of byte p rounds (guide_of s) (sections_of s) ≡ emitted byte p rounds
 emitted_translated byte s p rounds h =
     ap (λ g. emitted_of byte p rounds g (sections_of s)) h.guide
     ∙ ap (λ bs. program_row byte p rounds ++ (cell_bytes 0 p.cells ++ (section_bytes of.Driver (driver p rounds) ++ bs))) (sections_same (sections_of s) (section p) 0 (length p.texts) p.texts (omega arith) h.sections)

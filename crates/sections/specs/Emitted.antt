@@ -1,6 +1,5 @@
 -- The file of a sequential program.
 use Rattle.std.specs.Prelude.{ℕ, ◌+◌, ◌*◌, List, [], ◌∷◌, ◌++◌, length}
-use Rattle.kinds.specs.declared.kind.Kind.{Ghosts}
 use Rattle.tables.specs.declared.text.ThreadText.{ThreadText}
 use Rattle.tables.specs.Encoded.{cell_bytes}
 use Rattle.tables.specs.Program.{Program}
@@ -26,7 +25,7 @@ emitted_of byte p rounds guide S =
     program_row byte p rounds ++ (cell_bytes 0 p.cells ++ (section_bytes of.Driver guide ++ sections_from S 0 p.texts))
 
 -- the file of a program's table and of what a sequence holds
-abbrev pub emitted_by : {V : Type 0} {G : Ghosts V} → ℕ → Program → ℕ → Sequence V G → List ℕ
+abbrev pub emitted_by : {V : Type 0} → ℕ → Program → ℕ → Sequence V → List ℕ
 emitted_by byte p rounds s = emitted_of byte p rounds (guide_of s) (sections_of s)
 
 -- how many bytes it has, section by section

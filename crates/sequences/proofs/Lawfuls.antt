@@ -1,5 +1,5 @@
 -- A run whose instructions hold lawful codes only leaves lawful codes only.
-use Rattle.std.proofs.Common.{◌≡◌, ℕ, zero, suc, ◌+◌, ◌-◌, Bool, true, false, cond, ◌||◌, eqb, ltb, leb, List, [], ◌∷◌, length, drop, replicate}
+use Rattle.std.proofs.Common.{◌≡◌, ℕ, zero, suc, ◌+◌, ◌-◌, Bool, true, false, cond, ◌||◌, eqb, ltb, leb, List, [], ◌∷◌, length, drop, replicate, Ok, Err}
 use Rattle.std.proofs.ByRecursion.{All-set, All-take, All-drop}
 use Rattle.kinds.specs.Meaning.{Meaning, Lawful}
 use Rattle.records.specs.declared.statement.Place.{Place}
@@ -9,13 +9,12 @@ use Rattle.states.proofs.Codes.{all_or, all_replicate, lawful_padded}
 use Rattle.walks.specs.declared.outcome.Ending.TheVariants as ending
 use Rattle.walks.specs.declared.outcome.Outcome.{Outcome}
 use Rattle.walks.specs.declared.outcome.Outcome.TheVariants.{Open, Ended}
+use Rattle.reports.specs.Stops.{End}
 use Rattle.sequences.specs.declared.act.Act.{Act}
 use Rattle.sequences.specs.declared.act.Act.TheVariants.{On, Write, Mark, To, Back, Fail, Stop}
 use Rattle.sequences.specs.declared.instruction.Instruction.{Instruction}
 use Rattle.sequences.specs.declared.instruction.Instruction.TheVariants as op
 use Rattle.sequences.specs.declared.point.SeqPoint.{SeqPoint}
-use Rattle.sequences.specs.declared.section.SectionEnd.{SectionEnd}
-use Rattle.sequences.specs.declared.section.SectionEnd.TheVariants as end
 use Rattle.sequences.specs.declared.state.SeqState.{SeqState}
 use Rattle.sequences.specs.Acts.{Called, act, carried, fetched, exec, call, whole}
 use Rattle.sequences.specs.Codes.{LawfulInstruction, LawfulSection, LawfulState}
@@ -103,10 +102,9 @@ module _ (k : Meaning) (laws : Lawful k) where
   abbrev Leaves : (ℕ → ℕ → SeqState → Moved) → Type 0
   Leaves more = (h c : ℕ) (q : SeqState) → LawfulState k q → LawfulState k (more h c q).point.state
 
-  lawful_returned : (h : ℕ) (more : ℕ → ℕ → SeqState → Moved) (r : Called) (e : SectionEnd) → Leaves more → LawfulState k r.state → LawfulState k (returned h more r e).point.state
-  lawful_returned h more r end.Returned m l = m _ _ r.state l
-  lawful_returned h more r end.Failed m l = l
-  lawful_returned h more r end.Cut m l = l
+  lawful_returned : (h : ℕ) (more : ℕ → ℕ → SeqState → Moved) (r : Called) (e : End) → Leaves more → LawfulState k r.state → LawfulState k (returned h more r e).point.state
+  lawful_returned h more r (Ok tt) m l = m _ _ r.state l
+  lawful_returned h more r (Err e) m l = l
 
   module _ (s : Sequence) (codes : (i : ℕ) → LawfulSection k (s.sections i)) where
     lawful_driven : (h c : ℕ) (q : SeqState) (more : ℕ → ℕ → SeqState → Moved) (m : Move) → Leaves more → LawfulState k q → LawfulState k (driven k s.sections h c q more m).point.state

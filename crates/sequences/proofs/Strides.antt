@@ -1,5 +1,5 @@
 -- One more instruction of the driver.
-use Rattle.std.proofs.Common.{◌≡◌, ℕ, suc, ◌+◌, ◌-◌, ◌<◌, ◌≤◌, Bool, true, false, cond, eqb, List, length, Some, None, Option, is_some, Bor, MatchOption, drop, sym, refl, ap, ◌∙◌, arith}
+use Rattle.std.proofs.Common.{◌≡◌, ℕ, suc, ◌+◌, ◌-◌, ◌<◌, ◌≤◌, Bool, true, false, cond, eqb, List, length, Some, None, Option, is_some, Bor, MatchOption, drop, sym, refl, ap, ◌∙◌, arith, Ok, Err}
 use Rattle.std.specs.List.{HoldsAt}
 use Rattle.std.specs.Option.{option_copied}
 use Rattle.std.proofs.lemmas.Bool.{false≢true}
@@ -10,10 +10,9 @@ use Rattle.kinds.specs.Meaning.{Meaning}
 use Rattle.walks.specs.declared.outcome.Ending.TheVariants.{Cut}
 use Rattle.walks.specs.declared.outcome.Outcome.TheVariants.{Ended}
 use Rattle.reports.specs.declared.report.Turn.{Turn}
+use Rattle.reports.specs.Stops.{End}
 use Rattle.sequences.specs.declared.instruction.Instruction.{Instruction}
 use Rattle.sequences.specs.declared.point.SeqPoint.{SeqPoint}
-use Rattle.sequences.specs.declared.section.SectionEnd.{SectionEnd}
-use Rattle.sequences.specs.declared.section.SectionEnd.TheVariants as end
 use Rattle.sequences.specs.declared.state.SeqState.{SeqState}
 use Rattle.sequences.specs.Acts.{Called, call}
 use Rattle.sequences.specs.Drives.{Sequence, Moved, moved, Move, slot, guess, enter, save, finish, stray, move, move_of, first_move, returned, driven, proceed}
@@ -41,10 +40,9 @@ onward more p (Break t) = moved t.count t.outcome p.at.0 p.state
 abbrev onward_by : (ℕ → ℕ → SeqState → Moved) → Strode → Moved
 onward_by more s = onward more s.point s.stride
 
-returned_onward : (h : ℕ) (more : ℕ → ℕ → SeqState → Moved) (r : Called) (e : SectionEnd) → returned h more r e ≡ onward_by more (entered h r e)
-returned_onward h more r end.Returned = refl
-returned_onward h more r end.Failed = refl
-returned_onward h more r end.Cut = refl
+returned_onward : (h : ℕ) (more : ℕ → ℕ → SeqState → Moved) (r : Called) (e : End) → returned h more r e ≡ onward_by more (entered h r e)
+returned_onward h more r (Ok tt) = refl
+returned_onward h more r (Err e) = refl
 
 either : (b : Bool) (a h c : ℕ) (q : SeqState) (more : ℕ → ℕ → SeqState → Moved) → cond b (more a c q) (more h c q) ≡ more (cond b a h) c q
 either true a h c q more = refl

@@ -1,5 +1,5 @@
 -- A sequential program that holds that of a table runs as it does: the driver calls only the table's threads.
-use Rattle.std.proofs.Common.{◌≡◌, ℕ, zero, suc, ◌+◌, ◌-◌, ◌*◌, ◌%◌, ◌<◌, true, false, cond, eqb, ltb, List, [], ◌∷◌, map, length, drop, sym, refl, ap, ◌∙◌, subst, inl, inr, mod-lt, eq-zero-or-pos, mul-zero}
+use Rattle.std.proofs.Common.{◌≡◌, ℕ, zero, suc, ◌+◌, ◌-◌, ◌*◌, ◌%◌, ◌<◌, true, false, cond, eqb, ltb, List, [], ◌∷◌, map, length, drop, sym, refl, ap, ◌∙◌, subst, inl, inr, mod-lt, eq-zero-or-pos, mul-zero, Ok, Err}
 use Rattle.std.specs.List.{range_with_len, AllByRecursion}
 use Rattle.std.proofs.ByRecursion.{All-drop}
 use Rattle.kinds.specs.Meaning.{Meaning}
@@ -8,10 +8,9 @@ use Rattle.tables.specs.Slots.{slot_total, program_slots}
 use Rattle.walks.specs.declared.outcome.Ending.TheVariants as ending
 use Rattle.walks.specs.declared.outcome.Outcome.{Outcome}
 use Rattle.walks.specs.declared.outcome.Outcome.TheVariants.{Open, Ended}
+use Rattle.reports.specs.Stops.{End}
 use Rattle.sequences.specs.declared.instruction.Instruction.{Instruction}
 use Rattle.sequences.specs.declared.point.SeqPoint.{SeqPoint}
-use Rattle.sequences.specs.declared.section.SectionEnd.{SectionEnd}
-use Rattle.sequences.specs.declared.section.SectionEnd.TheVariants as end
 use Rattle.sequences.specs.declared.sequence.Sequence as held
 use Rattle.sequences.specs.declared.state.SeqState.{SeqState}
 use Rattle.sequences.specs.Acts.{Called, call}
@@ -44,10 +43,9 @@ module _ (k : Meaning) (S R : ℕ → List Instruction) where
   abbrev Same : (more less : ℕ → ℕ → SeqState → Moved) → Type 0
   Same more less = (h c : ℕ) (q : SeqState) → more h c q ≡ less h c q
 
-  returned_same : (h : ℕ) (more less : ℕ → ℕ → SeqState → Moved) (r : Called) (e : SectionEnd) → Same more less → returned h more r e ≡ returned h less r e
-  returned_same h more less r end.Returned m = m _ _ _
-  returned_same h more less r end.Failed m = refl
-  returned_same h more less r end.Cut m = refl
+  returned_same : (h : ℕ) (more less : ℕ → ℕ → SeqState → Moved) (r : Called) (e : End) → Same more less → returned h more r e ≡ returned h less r e
+  returned_same h more less r (Ok tt) m = m _ _ _
+  returned_same h more less r (Err e) m = refl
 
   driven_same : (h c : ℕ) (q : SeqState) (more less : ℕ → ℕ → SeqState → Moved) (m : Move) → Agree S R m → Same more less → driven k S h c q more m ≡ driven k R h c q less m
   driven_same h c q more less (slot i to) a m =

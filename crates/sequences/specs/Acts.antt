@@ -1,15 +1,15 @@
 -- What an instruction of a section does, and the run of a section.
-use Rattle.std.specs.Prelude.{ℕ, zero, suc, ◌+◌, Bool, true, false, cond, ◌&&◌, ◌||◌, List, [], ◌∷◌, length, drop, ◌==◌, nat_le, nat_lt}
+use Rattle.std.specs.Prelude.{ℕ, zero, suc, ◌+◌, Bool, true, false, cond, ◌&&◌, ◌||◌, List, [], ◌∷◌, length, drop, ◌==◌, nat_le, nat_lt, Ok, Err}
 use Rattle.kinds.specs.Meaning.{Meaning}
 use Rattle.records.specs.declared.statement.Label.{Label}
 use Rattle.records.specs.declared.statement.Thread.{Thread}
+use Rattle.reports.specs.declared.stop.Stop.TheVariants as stop
+use Rattle.reports.specs.Stops.{End}
 use Rattle.sequences.specs.declared.act.Act.{Act}
 use Rattle.sequences.specs.declared.act.Act.TheVariants.{On, Write, Mark, To, Back, Fail, Stop}
 use Rattle.sequences.specs.declared.instruction.Address.{Address}
 use Rattle.sequences.specs.declared.instruction.Instruction.{Instruction}
 use Rattle.sequences.specs.declared.instruction.Instruction.TheVariants as op
-use Rattle.sequences.specs.declared.section.SectionEnd.{SectionEnd}
-use Rattle.sequences.specs.declared.section.SectionEnd.TheVariants as end
 use Rattle.sequences.specs.declared.state.SeqState.{SeqState}
 use Rattle.sequences.specs.States.{word, with_word, value, put}
 use Rattle.sequences.specs.Words.{saved, stop_at}
@@ -49,11 +49,11 @@ act k i q op.End = Stop
 
 -- how a section's run ended, the statements carried out in it, and the state that it left
 pub record Called : Type 0 where
-  pub end : SectionEnd
+  pub end : End
   pub count : ℕ
   pub state : SeqState
 
-abbrev pub called : SectionEnd → ℕ → SeqState → Called
+abbrev pub called : End → ℕ → SeqState → Called
 called e d q = record { end = e; count = d; state = q }
 
 -- at the address h, after d statements; `more` is the run from another address
@@ -62,18 +62,18 @@ carried i h d q more (On c) = more (h + 1) (cond c (d + 1) d) q
 carried i h d q more (Write p c) = more (h + 1) (d + 1) (put q i p c)
 carried i h d q more (Mark w v) = more (h + 1) (d + 1) (with_word q w.0 v)
 carried i h d q more (To c a) = more a.0 (cond c (d + 1) d) q
-carried i h d q more Back = called end.Returned d q
-carried i h d q more Fail = called end.Failed (d + 1) q
-carried i h d q more Stop = called end.Cut d q
+carried i h d q more Back = called (Ok tt) d q
+carried i h d q more Fail = called (Err stop.Failed) (d + 1) q
+carried i h d q more Stop = called (Err stop.Cut) d q
 
 -- the first of the instructions left
 abbrev pub fetched : Meaning → (i h d : ℕ) → SeqState → (ℕ → ℕ → SeqState → Called) → List Instruction → Called
-fetched k i h d q more [] = called end.Cut d q
+fetched k i h d q more [] = called (Err stop.Cut) d q
 fetched k i h d q more (x ∷ rest) = carried i h d q more (act k i q x)
 
 -- a section's run from the address h, after d statements, in at most so many steps
 unfoldable pub exec : Meaning → ℕ → List Instruction → (steps h d : ℕ) → SeqState → Called
-exec k i code zero h d q = called end.Cut d q
+exec k i code zero h d q = called (Err stop.Cut) d q
 exec k i code (suc steps) h d q = fetched k i h d q (exec k i code steps) (drop h code)
 
 -- Jumps only go forward, so a section has no more steps than instructions.

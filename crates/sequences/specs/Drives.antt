@@ -1,16 +1,16 @@
 -- The run of the driver: from guess to guess, and over a list of guesses.
-use Rattle.std.specs.Prelude.{ℕ, zero, suc, ◌+◌, ◌-◌, cond, List, [], ◌∷◌, length, take, drop, Some, None, Option, ◌==◌, nat_lt}
+use Rattle.std.specs.Prelude.{ℕ, zero, suc, ◌+◌, ◌-◌, cond, List, [], ◌∷◌, length, take, drop, Some, None, Option, ◌==◌, nat_lt, Ok, Err}
 use Rattle.kinds.specs.Meaning.{Meaning}
 use Rattle.reports.specs.Players.{Turned}
 use Rattle.tables.specs.Program.{Program}
 use Rattle.walks.specs.declared.outcome.Ending.TheVariants as ending
 use Rattle.walks.specs.declared.outcome.Outcome.{Outcome}
 use Rattle.walks.specs.declared.outcome.Outcome.TheVariants.{Open, Ended}
+use Rattle.reports.specs.Stops.{End}
+use Rattle.reports.specs.Stops as stops
 use Rattle.sequences.specs.declared.instruction.Instruction.{Instruction}
 use Rattle.sequences.specs.declared.instruction.Instruction.TheVariants as op
 use Rattle.sequences.specs.declared.point.SeqPoint.{SeqPoint}
-use Rattle.sequences.specs.declared.section.SectionEnd.{SectionEnd}
-use Rattle.sequences.specs.declared.section.SectionEnd.TheVariants as end
 use Rattle.sequences.specs.declared.state.SeqState.{SeqState}
 use Rattle.sequences.specs.Acts.{Called, call}
 use Rattle.sequences.specs.Code.{at, section, driver}
@@ -33,10 +33,9 @@ abbrev pub moved : ℕ → Outcome → ℕ → SeqState → Moved
 moved c o h q = record { count = c; outcome = o; point = point h q }
 
 -- behind a CALL at the address h; `more` is the run from another address
-abbrev pub returned : ℕ → (ℕ → ℕ → SeqState → Moved) → Called → SectionEnd → Moved
-returned h more r end.Returned = more (h + 1) r.count r.state
-returned h more r end.Failed = moved r.count (Ended ending.Failed) h r.state
-returned h more r end.Cut = moved r.count (Ended ending.Cut) h r.state
+abbrev pub returned : ℕ → (ℕ → ℕ → SeqState → Moved) → Called → End → Moved
+returned h more r (Ok tt) = more (h + 1) r.count r.state
+returned h more r (Err e) = moved r.count (Ended (stops.ending e)) h r.state
 
 -- an instruction as one of the driver's, or as none
 pub data Move : Type 0 where

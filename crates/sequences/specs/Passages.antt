@@ -1,12 +1,12 @@
 -- An instruction's act in three parts: the state that it leaves, whether it counts, and where the section goes on.
-use Rattle.std.specs.Prelude.{ℕ, ◌+◌, Bool, true, false, cond}
+use Rattle.std.specs.Prelude.{ℕ, ◌+◌, Bool, true, false, cond, Ok, Err}
 use Rattle.std.specs.declared.ops.ControlFlow.{ControlFlow}
 use Rattle.std.specs.declared.ops.ControlFlow.TheVariants.{Continue, Break}
+use Rattle.reports.specs.declared.stop.Stop.TheVariants as stop
+use Rattle.reports.specs.Stops.{End}
 use Rattle.sequences.specs.declared.act.Act.{Act}
 use Rattle.sequences.specs.declared.act.Act.TheVariants.{On, Write, Mark, To, Back, Fail, Stop}
 use Rattle.sequences.specs.declared.section.Section.{Section}
-use Rattle.sequences.specs.declared.section.SectionEnd.{SectionEnd}
-use Rattle.sequences.specs.declared.section.SectionEnd.TheVariants as end
 use Rattle.sequences.specs.declared.state.SeqState.{SeqState}
 use Rattle.sequences.specs.Acts.{Called, called}
 use Rattle.sequences.specs.States.{put, with_word}
@@ -31,14 +31,14 @@ counts Fail = true
 counts Stop = false
 
 -- from the address h
-abbrev pub passage : ℕ → Act → ControlFlow SectionEnd ℕ
+abbrev pub passage : ℕ → Act → ControlFlow End ℕ
 passage h (On c) = Continue (h + 1)
 passage h (Write p c) = Continue (h + 1)
 passage h (Mark w v) = Continue (h + 1)
 passage h (To c a) = Continue a.0
-passage h Back = Break end.Returned
-passage h Fail = Break end.Failed
-passage h Stop = Break end.Cut
+passage h Back = Break (Ok tt)
+passage h Fail = Break (Err stop.Failed)
+passage h Stop = Break (Err stop.Cut)
 
 -- one statement more, if it was completed
 abbrev pub tally : Bool → ℕ → ℕ

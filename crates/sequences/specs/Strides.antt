@@ -1,17 +1,16 @@
 -- One instruction of the driver: where it leads, and the numbers after it.
-use Rattle.std.specs.Prelude.{ℕ, ◌+◌, ◌-◌, cond, List, ◌==◌}
+use Rattle.std.specs.Prelude.{ℕ, ◌+◌, ◌-◌, cond, List, ◌==◌, Ok, Err}
 use Rattle.std.specs.declared.ops.ControlFlow.{ControlFlow}
 use Rattle.std.specs.declared.ops.ControlFlow.TheVariants.{Continue, Break}
 use Rattle.kinds.specs.Meaning.{Meaning}
-use Rattle.walks.specs.declared.outcome.Ending.{Ending}
 use Rattle.walks.specs.declared.outcome.Ending.TheVariants as ending
 use Rattle.walks.specs.declared.outcome.Outcome.TheVariants.{Open, Ended}
 use Rattle.reports.specs.declared.report.Turn.{Turn}
 use Rattle.reports.specs.Players.{over}
+use Rattle.reports.specs.Stops.{End}
+use Rattle.reports.specs.Stops as stops
 use Rattle.sequences.specs.declared.instruction.Instruction.{Instruction}
 use Rattle.sequences.specs.declared.point.SeqPoint.{SeqPoint}
-use Rattle.sequences.specs.declared.section.SectionEnd.{SectionEnd}
-use Rattle.sequences.specs.declared.section.SectionEnd.TheVariants as end
 use Rattle.sequences.specs.declared.state.SeqState.{SeqState}
 use Rattle.sequences.specs.Acts.{Called, call}
 use Rattle.sequences.specs.Drives.{Move, slot, guess, enter, save, finish, stray, point}
@@ -30,10 +29,9 @@ pub record Strode : Type 0 where
 abbrev pub strode : ControlFlow Turn ℕ → SeqPoint → Strode
 strode s p = record { stride = s; point = p }
 
-abbrev pub entered : ℕ → Called → SectionEnd → Strode
-entered h r end.Returned = strode (Continue r.count) (point (h + 1) r.state)
-entered h r end.Failed = strode (Break (over r.count ending.Failed)) (point h r.state)
-entered h r end.Cut = strode (Break (over r.count ending.Cut)) (point h r.state)
+abbrev pub entered : ℕ → Called → End → Strode
+entered h r (Ok tt) = strode (Continue r.count) (point (h + 1) r.state)
+entered h r (Err e) = strode (Break (over r.count (stops.ending e))) (point h r.state)
 
 abbrev pub stride : Meaning → (ℕ → List Instruction) → (h c : ℕ) → SeqState → Move → Strode
 stride k sections h c q (slot i to) = strode (Continue c) (point (cond (word q (active i) == 0) to (h + 1)) q)

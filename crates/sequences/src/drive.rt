@@ -9,7 +9,7 @@ ghost use Rattle.sequences.specs.Strides.{strode, entered, stride as strides_so}
 
 use crate::instruction::{Address, Instruction, STOP_AT, Word};
 use crate::point::SeqPoint;
-use crate::section::{Section, SectionEnd, call_section};
+use crate::section::{Section, call_section};
 use crate::sequence::{Part, Sequence};
 use crate::state::SeqState;
 use kinds::Kind;
@@ -56,12 +56,11 @@ impl<V: Kind> Sequence<V> {
     {
         let section = call_section::<V>(&mut at.state, i, self.section(i));
         match section.end {
-            SectionEnd::Returned => {
+            Ok(()) => {
                 at.at = Address(at.at.0 + 1);
                 ControlFlow::Continue(section.count)
             }
-            SectionEnd::Failed => ControlFlow::Break(Turn::ended(section.count, Ending::Failed)),
-            SectionEnd::Cut => ControlFlow::Break(Turn::ended(section.count, Ending::Cut)),
+            Err(stop) => ControlFlow::Break(Turn::ended(section.count, Ending::from(stop))),
         }
     }
 

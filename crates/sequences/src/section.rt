@@ -8,22 +8,14 @@ use crate::instruction::Instruction;
 use crate::state::SeqState;
 use kinds::Kind;
 use records::statement::Thread;
+use reports::stop::Stop;
 use std::ops::ControlFlow;
-
-// Apart from a slot's end: a section that returned may have carried out fewer statements than its thread has left, and the
-// laws that tie the two read each by its own name.
-#[derive(Clone, Copy)]
-pub enum SectionEnd {
-    Returned,
-    Failed,
-    Cut,
-}
 
 // How a section's run ended, and how many statements were carried out in it. A failing one counts, a blocking one does
 // not.
 #[derive(Clone, Copy)]
 pub struct Section {
-    pub end: SectionEnd,
+    pub end: Result<(), Stop>,
     pub count: u8,
 }
 
@@ -51,16 +43,16 @@ fn counts(act: Act) -> bool
 }
 
 // Where a section goes on behind the instruction at an address, or how it ends.
-fn behind(at: usize, act: Act) -> ControlFlow<SectionEnd, usize>
+fn behind(at: usize, act: Act) -> ControlFlow<Result<(), Stop>, usize>
     requires { at < 2 ^ 32 }
     ensures { result ≡ passage at act }
 {
     match act {
         Act::On(_) | Act::Write(_, _) | Act::Mark(_, _) => ControlFlow::Continue(at + 1),
         Act::To(_, to) => ControlFlow::Continue(to.0 as usize),
-        Act::Back => ControlFlow::Break(SectionEnd::Returned),
-        Act::Fail => ControlFlow::Break(SectionEnd::Failed),
-        Act::Stop => ControlFlow::Break(SectionEnd::Cut),
+        Act::Back => ControlFlow::Break(Ok(())),
+        Act::Fail => ControlFlow::Break(Err(Stop::Failed)),
+        Act::Stop => ControlFlow::Break(Err(Stop::Cut)),
     }
 }
 
@@ -96,7 +88,7 @@ pub(crate) fn call_section<V: Kind>(
         }
     }
     Section {
-        end: SectionEnd::Cut,
+        end: Err(Stop::Cut),
         count,
     }
 }

@@ -8,12 +8,12 @@ use Rattle.sections.specs.Emitted.{sections_from}
 use Rattle.sections.specs.Rows.{section_bytes}
 use Rattle.sections.proofs.Emits.{length_more, sections_more, sections_all}
 use Rattle.sections.proofs.Sections.{length_section}
-use Rattle.sections.proofs.emit.write_sections.Goals as goal
+use Rattle.sections.proofs.emit.File.write_sections.Goals as goal
 
 pub write_section-at-requires : goal.write_section-at-requires
 write_section-at-requires g c =
-    let S = sections_of c.args.sequence.now in
-    let ts = (view c.args.table.now).texts in
+    let S = sections_of c.args.self.now.sequence.now in
+    let ts = (view c.args.self.now.table.now).texts in
     let i = c.loop-i.i in
     let h : i < length ts = omega (arith, c.threads-i-end.ensures.value) in
     let l = length_more S ts i h in
@@ -22,8 +22,8 @@ write_section-at-requires g c =
 
 pub loop-i-preserved : goal.loop-i-preserved
 loop-i-preserved g c =
-    let S = sections_of c.args.sequence.now in
-    let ts = (view c.args.table.now).texts in
+    let S = sections_of c.args.self.now.sequence.now in
+    let ts = (view c.args.self.now.table.now).texts in
     let i = c.loop-i.i in
     let t = c.text.result in
     let code = c.section.result.now in
@@ -34,7 +34,7 @@ loop-i-preserved g c =
 
 pub returns : goal.returns
 returns g c =
-    let S = sections_of c.args.sequence.now in
-    let ts = (view c.args.table.now).texts in
+    let S = sections_of c.args.self.now.sequence.now in
+    let ts = (view c.args.self.now.table.now).texts in
     let e = done c.loop-i.out c.loop-i.at _ _ _ (sections_all S ts c.loop-i.i (omega (arith, c.threads-i-end.ensures.value))) c.loop-i.invariant.1 c.loop-i.invariant.0 in
     record { after = e.0; next = e.1 }

@@ -2,12 +2,12 @@ use Rattle.std.proofs.Common.{◌<◌, length, ap, arith}
 use Rattle.sequences.specs.Sequences.{sections_of}
 use Rattle.tables.specs.Tables.{view}
 use Rattle.sections.proofs.Emits.{length_more, sections_all}
-use Rattle.sections.proofs.emit.sections_len.Goals as goal
+use Rattle.sections.proofs.emit.File.sections_len.Goals as goal
 
 pub loop-i-preserved : goal.loop-i-preserved
 loop-i-preserved g c =
-    let S = sections_of c.args.sequence.now in
-    let ts = (view c.args.table.now).texts in
+    let S = sections_of c.args.self.now.sequence.now in
+    let ts = (view c.args.self.now.table.now).texts in
     let i = c.loop-i.i in
     let h : i < length ts = omega (arith, c.threads-i-end.ensures.value) in
     let l = length_more S ts i h in
@@ -16,8 +16,8 @@ loop-i-preserved g c =
 
 pub returns : goal.returns
 returns g c =
-    let S = sections_of c.args.sequence.now in
-    let ts = (view c.args.table.now).texts in
+    let S = sections_of c.args.self.now.sequence.now in
+    let ts = (view c.args.self.now.table.now).texts in
     record {
       few = omega (arith, c.loop-i.invariant.1, c.threads-i-end.ensures.few);
       value = omega (arith, c.loop-i.invariant.0, ap length (sections_all S ts c.loop-i.i (omega (arith, c.threads-i-end.ensures.value))));
