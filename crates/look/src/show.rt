@@ -85,14 +85,12 @@ impl<V: Kind> fmt::Display for SlotsText<'_, V> {
             let round = (at.slot / threads).saturating_add(1);
             let i = at.slot % threads;
             let turn = self.machine.turn(&mut at, *n);
-            let count = turn.count.0;
+            let count = turn.count;
             write!(
                 f,
                 "  round {round}, thread {i}: number {n}, {count} statements carried out"
             )?;
-            if let Outcome::Ended(Ending::Failed) = turn.outcome
-                && i < 8
-            {
+            if let Outcome::Ended(Ending::Failed) = turn.outcome {
                 let label = at.state.threads.label(Thread(i));
                 if let Some(s) = self.machine.table.statement(Thread(i), label) {
                     let t = label.0;
