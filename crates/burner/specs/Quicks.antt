@@ -1,5 +1,5 @@
 -- What Quick answers and writes.
-use Rattle.std.specs.Prelude.{◌≡◌, ℕ, cond, ◌⊎◌, List, ◌++◌, length, Ok, Err, Result, ◌==◌, nat_le, slice_index}
+use Rattle.std.specs.Prelude.{◌≡◌, ℕ, cond, ◌⊎◌, List, length, Ok, Err, Result, ◌==◌, nat_le, slice_index}
 use Rattle.kinds.specs.Meaning.{Meaning}
 use Rattle.kinds.specs.Truth.{truth}
 use Rattle.kinds.specs.Words.{words}
@@ -11,11 +11,9 @@ use Rattle.questions.specs.Answer.{Answer}
 use Rattle.questions.specs.Question.{question}
 use Rattle.records.specs.declared.refusal.Refusal.{Refusal}
 use Rattle.records.specs.Numbers.{number}
-use Rattle.records.specs.Rows.{four}
+use Rattle.reports.specs.Hosts.{twelve, answer_number}
 use Rattle.reports.specs.Reports.{front}
 use Rattle.tables.specs.Program.{decoded}
-use Rattle.walks.specs.declared.walk.Answer as walks
-use Rattle.walks.specs.declared.walk.Answer.TheVariants.{Done, Spent}
 
 abbrev pub after_load : Answer → Result Counts Refusal → Result Counts Refusal
 after_load (Ok u) r = r
@@ -32,14 +30,6 @@ counts_of k f rounds b = after_load (question k f) (after_rounds (yes_or (rounds
 -- truth values where the file says so, words otherwise
 abbrev pub kind_of : List ℕ → Meaning
 kind_of f = cond (slice_index f 2 == 2) truth words
-
--- failed, cut and full, four bytes each
-abbrev pub twelve : Counts → List ℕ
-twelve c = four c.failed ++ (four c.cut ++ four c.full)
-
-abbrev pub answer_number : walks.Answer → ℕ
-answer_number Done = 0
-answer_number Spent = 1
 
 -- the number r is answered, and the buffer is `new` that was `old`
 abbrev pub told : (r : ℕ) (new old : List ℕ) → Result Counts Refusal → Type 0

@@ -1,17 +1,16 @@
 // Quick: Load, Translate and Walk on a job of its own.
 ghost use Rattle.std.specs.Prelude.{◌≡◌, ◌≤◌, length, IfSome};
-ghost use Rattle.reports.specs.Reports.{front};
 ghost use Rattle.jobs.specs.Keeps.{Keeps};
 ghost use Rattle.jobs.specs.Models.{Model};
-ghost use Rattle.burner.specs.Quicks.{counts_of, kind_of, twelve, told, Quick};
+ghost use Rattle.burner.specs.Quicks.{counts_of, kind_of, told, Quick};
 
 use walks::counts::Counts;
 use jobs::job::Job;
 use kinds::{Kind, Truth, Words};
 use records::lookup::item_or;
 use records::refusal::Refusal;
+use reports::host;
 use std::alloc::Global;
-use walks::walk::Answer;
 
 // What `quick` answers where there is no memory for a job; no refusal has this number.
 const NO_MEMORY: u32 = 99;
@@ -55,20 +54,6 @@ fn walk_kind(heap: Global, file: &[u8], rounds: u32, b: u32) -> Option<Result<Co
     }
 }
 
-// Failed, cut and full, four bytes each, highest first.
-fn write_counts(out: &mut [u8], c: Counts)
-    requires { 12 ≤ length out.old }
-    ensures { out.new ≡ front (twelve c) out.old }
-{
-    let f = c.failed.to_be_bytes();
-    let g = c.cut.to_be_bytes();
-    let h = c.full.to_be_bytes();
-    let bytes = [
-        f[0], f[1], f[2], f[3], g[0], g[1], g[2], g[3], h[0], h[1], h[2], h[3],
-    ];
-    out[0..12].copy_from_slice(&bytes);
-}
-
 // Writes the counts and answers 0 where Walk is done and 1 where leaves are left; or answers the refusal's number.
 fn tell(out: &mut [u8], walked: Result<Counts, Refusal>) -> u32
     requires { 12 ≤ length out.old }
@@ -76,13 +61,7 @@ fn tell(out: &mut [u8], walked: Result<Counts, Refusal>) -> u32
 {
     match walked {
         Err(refusal) => u32::from(refusal.number()),
-        Ok(c) => {
-            write_counts(out, c);
-            match c.answer {
-                Answer::Done => 0,
-                Answer::Spent => 1,
-            }
-        }
+        Ok(counts) => host::tell(out, counts),
     }
 }
 

@@ -14,6 +14,7 @@ use crate::sight::run_of;
 use crate::text::{ProblemText, RefusalText};
 use anyhow::anyhow;
 use kinds::{Kind, Truth, Words};
+use reports::walking::{BUDGET_LIMIT, LEAF_LIMIT};
 use std::process::ExitCode;
 use std::{env, fs};
 use surveys::setup::machine_of;
@@ -25,11 +26,6 @@ mod request;
 mod show;
 mod sight;
 mod text;
-
-// The most schedules that a walk visits, and how many it visits between two lines of progress.
-const LIMIT: u32 = 16_777_216;
-
-const CHUNK: u32 = 65_536;
 
 // Plays one schedule.
 fn play<'a, V: Kind>(
@@ -57,7 +53,7 @@ fn play<'a, V: Kind>(
     }
 }
 
-// Visits all schedules, or as many as a walk may.
+// Visits all schedules, or as many as a walk may, and says how far it is after as many as a call may visit.
 fn survey<V: Kind>(rt: &HostRuntime, machine: &Machine<V>, most: usize) -> anyhow::Result<()>
     ensures { Ready V.meaning machine.now → Complete (outcomes V.meaning machine.now) (leaves (outcomes V.meaning machine.now)) }
 {
@@ -65,11 +61,11 @@ fn survey<V: Kind>(rt: &HostRuntime, machine: &Machine<V>, most: usize) -> anyho
     let mut walk = Walk::begin(machine);
     let mut failures = Failures::new(heap, most);
     let mut done = false;
-    for _ in 0..LIMIT / CHUNK {
-        if walk.visited() > LIMIT - CHUNK {
+    for _ in 0..LEAF_LIMIT / BUDGET_LIMIT {
+        if walk.visited() > LEAF_LIMIT - BUDGET_LIMIT {
             break;
         }
-        match visit_some(heap, &mut walk, machine, CHUNK, &mut failures)? {
+        match visit_some(heap, &mut walk, machine, BUDGET_LIMIT, &mut failures)? {
             Answer::Done => {
                 done = true;
                 break;

@@ -79,7 +79,7 @@ impl<V: Kind> fmt::Display for SlotsText<'_, V> {
         let mut at = self.machine.first();
         let mut outcome = self.machine.standing(&at);
         for n in self.numbers {
-            if let Outcome::Ended(_) = outcome {
+            if matches!(outcome, Outcome::Ended(_)) {
                 return Ok(());
             }
             let round = (at.slot / threads).saturating_add(1);
@@ -90,7 +90,7 @@ impl<V: Kind> fmt::Display for SlotsText<'_, V> {
                 f,
                 "  round {round}, thread {i}: number {n}, {count} statements carried out"
             )?;
-            if let Outcome::Ended(Ending::Failed) = turn.outcome {
+            if turn.outcome == Outcome::Ended(Ending::Failed) {
                 let label = at.state.threads.label(Thread(i));
                 if let Some(s) = self.machine.table.statement(Thread(i), label) {
                     let t = label.0;

@@ -2,3 +2,4 @@ pub mod Reports
 pub mod Stops
 pub mod Players
 pub mod Counts
+pub mod Hosts

@@ -1,9 +1,8 @@
 -- Survey from the bytes of a file to its totals.
-use Rattle.std.specs.Prelude.{◌≡◌, ℕ, List, ◌++◌, Ok, Err, Result}
+use Rattle.std.specs.Prelude.{◌≡◌, ℕ, List, Ok, Err, Result}
 use Rattle.kinds.specs.Meaning.{Meaning}
 use Rattle.questions.specs.Answer.{accepted}
 use Rattle.questions.specs.Question.{question}
-use Rattle.records.specs.Rows.{four}
 use Rattle.tables.specs.Program.{decoded}
 use Rattle.threads.specs.Machines.{rounds_asked}
 use Rattle.threads.specs.Plays.{play}
@@ -18,7 +17,3 @@ Counted k f rounds b (Ok s) = (question k f ≡ accepted) × (rounds_asked round
 Counted k f rounds b (Err Memory) = Unit {0}
 Counted k f rounds b (Err (File e)) = question k f ≡ Err e
 Counted k f rounds b (Err (Call e)) = (question k f ≡ accepted) × (rounds_asked rounds ≡ Err e)
-
--- failed, cut and full, four bytes each
-abbrev pub twelve : Counts → List ℕ
-twelve s = four s.failed ++ (four s.cut ++ four s.full)
