@@ -13,9 +13,7 @@ use reports::stop::Stop;
 use states::state::State;
 
 impl Effect {
-    // Thread `i` does what its statement comes to. One that fails or blocks stops its slot. Without the hint a walk
-    // takes half as long again.
-    #[inline(always)]
+    // Thread `i` does what its statement comes to. One that fails or blocks stops its slot.
     fn apply(self, state: &mut State, i: Thread) -> Result<(), Stop>
         requires { label state.old i.0 < 255 }
         ensures progress { result ≡ came_out self }
