@@ -4,7 +4,7 @@ ghost use Rattle.reports.specs.Players.{with_point, over};
 ghost use Rattle.sequences.specs.Acts.{call as called_so};
 ghost use Rattle.sequences.specs.Drives.{move, move_of, first_move, proceeds, guessed, turn as turned_so};
 ghost use Rattle.sequences.specs.Passages.{with_state};
-ghost use Rattle.sequences.specs.Sequences.{sections_of, guide_of, instructions, starts};
+ghost use Rattle.sequences.specs.Sequences.{codes_of, sections_of, guide_of, instructions, starts};
 ghost use Rattle.sequences.specs.Strides.{strode, entered, stride as strides_so};
 
 use crate::instruction::{Address, Instruction, STOP_AT, Word};
@@ -23,6 +23,14 @@ use walks::outcome::{Ending, Outcome};
 type Stride = ControlFlow<Turn, u8>;
 
 impl<V: Kind> Sequence<V> {
+    // The initial codes of the cells.
+    pub fn cells(&self) -> &[u32]
+        ensures value { result.now ≡ codes_of self.now }
+        ensures few { length result.now ≤ 16 }
+    {
+        self.cells.as_slice()
+    }
+
     // The driver's instructions.
     pub fn driver(&self) -> &[Instruction]
         ensures value { result.now ≡ guide_of self.now }
@@ -153,7 +161,7 @@ impl<V: Kind> Sequence<V> {
     {
         let mut at = SeqPoint {
             at: Address(0),
-            state: SeqState::start::<V>(self.cells.as_slice()),
+            state: SeqState::start::<V>(self.cells()),
         };
         let turn = self.proceed(&mut at);
         (turn.outcome, at)

@@ -17,11 +17,10 @@ impl<V: Kind> Job<V> {
         requires room { length guesses.now ≤ length schedule.old }
         ensures { schedule.new ≡ front (drives_so V.meaning self.now.sequential.sequence guesses.now).counts schedule.old }
     {
+        let sequence = &self.sequential.sequence;
         let mut cells = [0; 16];
-        let _ = self
-            .sequential
-            .sequence
-            .drive(guesses, schedule, &mut cells);
+        let own = sequence.cells().len();
+        let _ = sequence.drive(guesses, schedule, &mut cells[0..own]);
     }
 
     // Writes the latest list and its schedule, if there is room for both.
