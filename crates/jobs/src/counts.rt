@@ -71,9 +71,7 @@ pub(crate) fn go_on<P: Copy, R: Runner<Point = P>>(
 ) -> Result<Counts, Refusal>
     ensures { R.ready r.now → Tied (R.outcome r.now) (R.stands r.now) walk.old → Walked (R.outcome r.now) (R.stands r.now) walk.old b walk.new result }
 {
-    if let Err(e) = asked(walk, b) {
-        return Err(e);
-    }
+    asked(walk, b)?;
     let answer = walk.advance(r, visits_of(walk, b));
     Ok(counts_of(walk, answer))
 }

@@ -1,6 +1,6 @@
 // The answers to a script.
 use crate::hex::HexText;
-use crate::survey::Counts;
+use jobs::counts::Counts;
 use records::refusal::{LoadError, Refusal};
 use reports::report::Report;
 use std::fmt;

@@ -1,7 +1,6 @@
 // The calls of a script.
 ghost use Rattle.std.specs.Prelude.{◌≡◌, ◌≤◌, map, length, IfSome, IfOk};
-ghost use Rattle.std.specs.Option.{option_map};
-ghost use Rattle.replay.specs.Scripts.{spelt, room, room_at, Slash, Loads, Translates, Plays, Saves, News, Named, Says, LineSays};
+ghost use Rattle.replay.specs.Scripts.{spelt, room, room_at, Slash, Loads, Translates, Surveys, Plays, Saves, News, Named, Says, LineSays};
 
 use crate::hex::bytes_of;
 use std::alloc::{AllocError, Global};
@@ -16,11 +15,12 @@ pub enum KindName {
     Truth,
 }
 
-// A call on a session. A number of `counts`, `cells` or `room` is the length of a buffer that is lent.
+// A call on a job. A number of `counts`, `cells` or `room` is the length of a buffer that is lent.
 #[derive(Drop)]
 pub enum Call {
     Load(Vec<u8>),
     Translate(u32),
+    Survey(u32),
     Play {
         numbers: Vec<u8>,
         counts: usize,
@@ -31,7 +31,7 @@ pub enum Call {
     },
 }
 
-// A line of a script: a new session, or a call on the one that is open.
+// A line of a script: a new job, or a call on the one that is open.
 #[derive(Drop)]
 pub enum Line {
     New(KindName),
@@ -42,9 +42,7 @@ pub enum Line {
 fn room_of(word: &str) -> Option<usize>
     ensures { IfSome result (λ n. n ≡ room word.now) }
 {
-    let Ok(n) = word.parse::<usize>() else {
-        return None;
-    };
+    let n = word.parse::<usize>().ok()?;
     Some(n.min(AMPLE))
 }
 
@@ -67,12 +65,10 @@ fn slash_in(words: &[&str]) -> usize
     ensures within { result ≤ length words.now }
     ensures found { Slash words.now result }
 {
-    for (i, word) in words.iter().enumerate() {
-        if *word == "/" {
-            return i;
-        }
-    }
-    words.len()
+    words
+        .iter()
+        .position(|word| *word == "/")
+        .unwrap_or(words.len())
 }
 
 // The lengths of the two buffers of a play, from the `/` on.
@@ -92,10 +88,7 @@ impl Call {
     {
         match words {
             [] => Ok(Some(Call::Load(Vec::new(heap)))),
-            [hex] => match bytes_of(heap, hex)? {
-                Some(file) => Ok(Some(Call::Load(file))),
-                None => Ok(None),
-            },
+            [hex] => Ok(bytes_of(heap, hex)?.map(Call::Load)),
             _ => Ok(None),
         }
     }
@@ -104,10 +97,16 @@ impl Call {
         ensures { IfSome result (Translates words.now) }
     {
         match words {
-            [rounds] => match rounds.parse::<u32>() {
-                Ok(rounds) => Some(Call::Translate(rounds)),
-                Err(_) => None,
-            },
+            [rounds] => Some(Call::Translate(rounds.parse().ok()?)),
+            _ => None,
+        }
+    }
+
+    fn survey(words: &[&str]) -> Option<Call>
+        ensures { IfSome result (Surveys words.now) }
+    {
+        match words {
+            [b] => Some(Call::Survey(b.parse().ok()?)),
             _ => None,
         }
     }
@@ -153,25 +152,17 @@ impl Line {
         }
     }
 
-    fn of(call: Option<Call>) -> Option<Line>
-        ensures { result ≡ option_map Line.Call call }
-    {
-        match call {
-            Some(call) => Some(Line::Call(call)),
-            None => None,
-        }
-    }
-
     // What a name and the words behind it say, or none where they are no call.
     fn named(heap: Global, name: &str, words: &[&str]) -> Result<Option<Line>, AllocError>
         ensures { IfOk result (λ o. IfSome o (Named name.now words.now)) }
     {
         match name {
             "new" => Ok(Line::new(words)),
-            "load" => Ok(Line::of(Call::load(heap, words)?)),
-            "translate" => Ok(Line::of(Call::translate(words))),
-            "play" => Ok(Line::of(Call::play(heap, words)?)),
-            "save" => Ok(Line::of(Call::save(words))),
+            "load" => Ok(Call::load(heap, words)?.map(Line::Call)),
+            "translate" => Ok(Call::translate(words).map(Line::Call)),
+            "survey" => Ok(Call::survey(words).map(Line::Call)),
+            "play" => Ok(Call::play(heap, words)?.map(Line::Call)),
+            "save" => Ok(Call::save(words).map(Line::Call)),
             _ => Ok(None),
         }
     }
