@@ -2,7 +2,7 @@
 use Rattle.std.specs.Prelude.{ℕ, List, length, replicate, Some, None, Ok, Err, vec_items, Option, Result}
 use Rattle.kinds.specs.Meaning.{Meaning}
 use Rattle.agreement.specs.Agreement.{Told, play_told}
-use Rattle.jobs.specs.declared.counts.Counts.{Counts}
+use Rattle.walks.specs.declared.counts.Counts.{Counts}
 use Rattle.jobs.specs.Models as jobs
 use Rattle.jobs.specs.Models.{Model, translate_answer, survey_reply}
 use Rattle.questions.specs.Question.{question}

@@ -1,9 +1,9 @@
 // The answers to a script.
 use crate::hex::HexText;
-use jobs::counts::Counts;
 use records::refusal::{LoadError, Refusal};
 use reports::report::Report;
 use std::fmt;
+use walks::counts::Counts;
 use walks::outcome::{Ending, Outcome};
 use walks::walk;
 

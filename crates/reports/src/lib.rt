@@ -1,4 +1,5 @@
-// What a run over a list of numbers reports, and the questions before it.
+// What a run over a list of numbers reports, what a call of a walk answers, and the questions before both.
 #![tactic(auto)]
 
 pub mod report;
+pub mod walking;

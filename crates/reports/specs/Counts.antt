@@ -3,18 +3,16 @@ use Rattle.std.specs.Prelude.{◌≡◌, ℕ, ◌+◌, min, Bool, cond, ◌&&◌
 use Rattle.records.specs.declared.refusal.Refusal.{Refusal}
 use Rattle.records.specs.declared.refusal.Refusal.TheVariants.{Budget, LeafLimit}
 use Rattle.reports.specs.Reports.{answered, unless}
+use Rattle.walks.specs.declared.counts.Counts.{Counts}
 use Rattle.walks.specs.declared.outcome.Outcome.{Outcome}
-use Rattle.walks.specs.declared.tally.Tally.{Tally}
-use Rattle.walks.specs.declared.walk.Answer.{Answer}
 use Rattle.walks.specs.declared.walk.Walk.{Walk}
 use Rattle.walks.specs.Leaves.{leaves}
 use Rattle.walks.specs.Tallies.{fails, cuts, fills, count, visited}
 use Rattle.walks.specs.Walks.{Tied, answer_at}
-use Rattle.jobs.specs.declared.counts.Counts.{Counts}
 
 -- the walk's cursor says that no leaf is left
 abbrev pub over : {P : Type 0} → Walk P → Bool
-over w = w.cursor.path.depth == 0
+over w = w.cursor.depth == 0
 
 -- yes, or the first no
 abbrev pub yes_or : Option Refusal → Result (Unit {0}) Refusal
@@ -26,10 +24,6 @@ limit_no done v b = cond (nat_le 1 b && nat_le b 65536) (cond (done || nat_le (v
 
 abbrev pub visits : Bool → ℕ → ℕ
 visits done b = cond done 0 b
-
--- the counts in a tally
-abbrev pub tally_counts : Answer → Tally → Counts
-tally_counts a t = record { answer = a; visited = visited t; failed = t.failed; cut = t.cut; full = t.full }
 
 -- how many leaves there are
 abbrev pub total : (List ℕ → Outcome) → ℕ

@@ -1,27 +1,18 @@
-// What a walk answers: the leaves visited since its beginning.
+// A call of a walk: its questions, and the leaves that it visits.
 ghost use Rattle.std.specs.Prelude.{◌≡◌, ◌+◌, ◌^◌, ◌<◌};
 ghost use Rattle.walks.specs.Tallies.{visited};
 ghost use Rattle.walks.specs.Walks.{Tied};
-ghost use Rattle.jobs.specs.Counts.{yes_or, over, limit_no, visits, tally_counts, Walked};
+ghost use Rattle.reports.specs.Counts.{yes_or, over, limit_no, visits, Walked};
 
 use records::refusal::Refusal;
+use walks::counts::Counts;
 use walks::runner::Runner;
 use walks::walk::{Answer, Walk};
 
 // The most leaves that one call visits, and that a walk does in all.
-const BUDGET_LIMIT: u32 = 65_536;
+pub const BUDGET_LIMIT: u32 = 65_536;
 
-const LEAF_LIMIT: u32 = 16_777_216;
-
-// Whether leaves are left, and how many were visited: in all, and by how they ended.
-#[derive(Clone, Copy)]
-pub struct Counts {
-    pub answer: Answer,
-    pub visited: u32,
-    pub failed: u32,
-    pub cut: u32,
-    pub full: u32,
-}
+pub const LEAF_LIMIT: u32 = 16_777_216;
 
 // The questions of a walk: the budget, and the leaves in all unless none is left.
 fn asked<P: Copy>(walk: &Walk<P>, b: u32) -> Result<(), Refusal>
@@ -30,15 +21,10 @@ fn asked<P: Copy>(walk: &Walk<P>, b: u32) -> Result<(), Refusal>
     if b < 1 || b > BUDGET_LIMIT {
         return Err(Refusal::Budget);
     }
-    match walk.answer() {
-        Answer::Done => Ok(()),
-        Answer::Spent => {
-            if walk.visited() > LEAF_LIMIT - b {
-                return Err(Refusal::LeafLimit);
-            }
-            Ok(())
-        }
+    if walk.answer() == Answer::Spent && walk.visited() > LEAF_LIMIT - b {
+        return Err(Refusal::LeafLimit);
     }
+    Ok(())
 }
 
 // How many leaves a call visits: none where none is left.
@@ -51,20 +37,8 @@ fn visits_of<P: Copy>(walk: &Walk<P>, b: u32) -> u32
     }
 }
 
-fn counts_of<P: Copy>(walk: &Walk<P>, answer: Answer) -> Counts
-    ensures { result ≡ tally_counts answer walk.now.tally }
-{
-    Counts {
-        answer,
-        visited: walk.visited(),
-        failed: walk.failed(),
-        cut: walk.cut(),
-        full: walk.full(),
-    }
-}
-
 // Visits the next `b` leaves, or those left.
-pub(crate) fn go_on<P: Copy, R: Runner<Point = P>>(
+pub fn go_on<P: Copy, R: Runner<Point = P>>(
     walk: &mut Walk<P>,
     r: &R,
     b: u32,
@@ -73,5 +47,5 @@ pub(crate) fn go_on<P: Copy, R: Runner<Point = P>>(
 {
     asked(walk, b)?;
     let answer = walk.advance(r, visits_of(walk, b));
-    Ok(counts_of(walk, answer))
+    Ok(walk.counts(answer))
 }

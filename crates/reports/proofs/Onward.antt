@@ -3,16 +3,17 @@ use Rattle.std.proofs.Common.{◌≡◌, ℕ, ◌+◌, ◌<◌, ◌≤◌, min, 
 use Rattle.std.proofs.lemmas.Bool.{cases_lt, lt-leb, le-leb, lt-ltb, le-ltb}
 use Rattle.records.specs.declared.refusal.Refusal.{Refusal}
 use Rattle.reports.specs.Reports.{answered, unless}
+use Rattle.walks.specs.declared.counts.Counts.{Counts}
 use Rattle.walks.specs.declared.outcome.Outcome.{Outcome}
 use Rattle.walks.specs.declared.walk.Answer.{Answer}
 use Rattle.walks.specs.declared.walk.Answer.TheVariants.{Done, Spent}
 use Rattle.walks.specs.declared.walk.Walk.{Walk}
+use Rattle.walks.specs.Counts.{tally_counts}
 use Rattle.walks.specs.Runs.{Lawful}
 use Rattle.walks.specs.Tallies.{visited}
 use Rattle.walks.specs.Walks.{Tied, Advanced, answer_at}
 use Rattle.walks.proofs.Advances.{answers}
-use Rattle.jobs.specs.declared.counts.Counts.{Counts}
-use Rattle.jobs.specs.Counts.{yes_or, over, limit_no, visits, tally_counts, total, counts_at, onward, walk_no, Walked}
+use Rattle.reports.specs.Counts.{yes_or, over, limit_no, visits, total, counts_at, onward, walk_no, Walked}
 
 -- a refusal, or none, from an answer to the questions
 pub no_is : (o : Option Refusal) (e : Refusal) → Err e ≡ yes_or o → o ≡ Some e
