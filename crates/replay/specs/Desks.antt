@@ -3,8 +3,8 @@ use Rattle.kinds.specs.Truth.{truth}
 use Rattle.kinds.specs.Words.{words}
 use Rattle.jobs.specs.Keeps.{Keeps}
 use Rattle.jobs.specs.Models.{Model, empty}
-use Rattle.replay.specs.declared.call.KindName.{KindName}
-use Rattle.replay.specs.declared.call.KindName.TheVariants as kind
+use Rattle.hosts.specs.declared.known.KnownKind.{KnownKind}
+use Rattle.hosts.specs.declared.known.KnownKind.TheVariants as kind
 use Rattle.replay.specs.declared.call.Line.{Line}
 use Rattle.replay.specs.declared.call.Line.TheVariants.{New, Call}
 use Rattle.replay.specs.declared.desk.Desk.{Desk}
@@ -28,7 +28,7 @@ Holds (desk.Truth j) nothing = ⊥
 Holds (desk.Truth j) (of_words m) = ⊥
 Holds (desk.Truth j) (of_truth m) = Keeps truth j m
 
-abbrev pub made_new : KindName → Open
+abbrev pub made_new : KnownKind → Open
 made_new kind.Words = of_words empty
 made_new kind.Truth = of_truth empty
 

@@ -2,10 +2,10 @@
 use Rattle.std.specs.Prelude.{◌≡◌, ℕ, ◌<◌, ◌≤◌, min, cond, List, [], map, length, take, drop, Some, vec_items, codes, ◌==◌, slice_index_or}
 use Rattle.std.specs.Borrow.{Bor}
 use Rattle.std.specs.List.{join_with_byte}
-use Rattle.std.specs.Str.Parse.{digits_value, without_leading_plus}
+use Rattle.hosts.specs.Numerals.{numeral}
 use Rattle.replay.specs.declared.call.Call.{Call}
 use Rattle.replay.specs.declared.call.Call.TheVariants.{Load, Translate, Survey, Play, Save}
-use Rattle.replay.specs.declared.call.KindName.TheVariants.{Words, Truth}
+use Rattle.hosts.specs.declared.known.KnownKind.TheVariants.{Words, Truth}
 use Rattle.replay.specs.declared.call.Line.{Line}
 use Rattle.replay.specs.declared.call.Line.TheVariants as line
 use Rattle.replay.specs.Hex.{bytes}
@@ -20,10 +20,6 @@ no_word = record { ref_ptr = (0, 0); now = [] }
 -- the text of the i-th word
 abbrev pub word : List Word → ℕ → List ℕ
 word ws i = (slice_index_or ws i no_word).now
-
--- the number that a word writes
-abbrev pub numeral : List ℕ → ℕ
-numeral w = digits_value 10 (without_leading_plus w)
 
 abbrev pub spelt : Word → ℕ
 spelt w = numeral w.now

@@ -1,19 +1,15 @@
 // The calls of a script.
-ghost use Rattle.std.specs.Prelude.{◌≡◌, ◌≤◌, map, length, IfSome, IfOk};
-ghost use Rattle.replay.specs.Scripts.{spelt, room, room_at, Slash, Loads, Translates, Surveys, Plays, Saves, News, Named, Says, LineSays};
+ghost use Rattle.std.specs.Prelude.{◌≡◌, ◌≤◌, length, IfSome, IfOk};
+ghost use Rattle.replay.specs.Scripts.{room, room_at, Slash, Loads, Translates, Surveys, Plays, Saves, News, Named, Says, LineSays};
 
 use crate::hex::bytes_of;
+use hosts::known::KnownKind;
+use hosts::numbers::numbers_of;
 use std::alloc::{AllocError, Global};
 use std::str::from_utf8;
 
 // As long as any buffer has to be.
 pub const AMPLE: usize = 65_536;
-
-#[derive(Clone, Copy)]
-pub enum KindName {
-    Words,
-    Truth,
-}
 
 // A call on a job. A number of `counts`, `cells` or `room` is the length of a buffer that is lent.
 #[derive(Drop)]
@@ -34,7 +30,7 @@ pub enum Call {
 // A line of a script: a new job, or a call on the one that is open.
 #[derive(Drop)]
 pub enum Line {
-    New(KindName),
+    New(KnownKind),
     Call(Call),
 }
 
@@ -44,20 +40,6 @@ fn room_of(word: &str) -> Option<usize>
 {
     let n = word.parse::<usize>().ok()?;
     Some(n.min(AMPLE))
-}
-
-// The numbers of a schedule, or none where a word is no number.
-fn numbers_of(heap: Global, words: &[&str]) -> Result<Option<Vec<u8>>, AllocError>
-    ensures { IfOk result (λ o. IfSome o (λ v. v.items ≡ map spelt words.now)) }
-{
-    let mut numbers = Vec::new(heap);
-    for word in words {
-        let Ok(n) = word.parse::<u8>() else {
-            return Ok(None);
-        };
-        numbers.push(n)?;
-    }
-    Ok(Some(numbers))
 }
 
 // The index of the first `/`, or the number of words where there is none.
@@ -146,8 +128,8 @@ impl Line {
         ensures { IfSome result (News words.now) }
     {
         match words {
-            ["words"] => Some(Line::New(KindName::Words)),
-            ["truth"] => Some(Line::New(KindName::Truth)),
+            ["words"] => Some(Line::New(KnownKind::Words)),
+            ["truth"] => Some(Line::New(KnownKind::Truth)),
             _ => None,
         }
     }

@@ -4,8 +4,9 @@ ghost use Rattle.replay.specs.Desks.{Open, Holds, made_new, line_reply, line_nex
 ghost use Rattle.replay.specs.Replies.{said};
 
 use crate::answer::Answer;
-use crate::call::{KindName, Line};
+use crate::call::Line;
 use crate::reply::reply;
+use hosts::known::KnownKind;
 use jobs::job::Job;
 use kinds::{Truth, Words};
 use std::alloc::{AllocError, Global};
@@ -19,12 +20,12 @@ pub enum Desk {
 
 impl Desk {
     // A new job of a kind.
-    fn open(heap: Global, kind: KindName) -> Result<Desk, AllocError>
+    fn open(heap: Global, kind: KnownKind) -> Result<Desk, AllocError>
         ensures { IfOk result (λ d. Holds d (made_new kind)) }
     {
         match kind {
-            KindName::Words => Ok(Desk::Words(Job::new(heap)?)),
-            KindName::Truth => Ok(Desk::Truth(Job::new(heap)?)),
+            KnownKind::Words => Ok(Desk::Words(Job::new(heap)?)),
+            KnownKind::Truth => Ok(Desk::Truth(Job::new(heap)?)),
         }
     }
 
