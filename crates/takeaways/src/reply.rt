@@ -34,7 +34,10 @@ fn carry<V: Kind>(
     ensures answer { result ≡ answered out.old (carried V.meaning k file.now) }
     ensures after { out.new ≡ left_in out.old (carried V.meaning k file.now) }
 {
-    table.load::<V>(file).map_err(|e| e.refusal)?;
+    // by `map_err` and `?` the proof didn't close
+    if let Err(e) = table.load::<V>(file) {
+        return Err(e.refusal);
+    }
     ask_rounds(k)?;
     sequence.translate(table, k);
     emit(table, k, sequence, out)
