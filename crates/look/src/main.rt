@@ -11,8 +11,8 @@ use crate::failures::{Failures, visit_some};
 use crate::request::{Request, Task, USAGE};
 use crate::show::{RunText, SurveyText, TableText};
 use crate::sight::run_of;
-use crate::text::{ProblemText, RefusalText};
 use anyhow::anyhow;
+use hosts::known::KnownKind;
 use kinds::{Kind, Truth, Words};
 use reports::walking::{BUDGET_LIMIT, LEAF_LIMIT};
 use std::process::ExitCode;
@@ -46,8 +46,7 @@ fn play<'a, V: Kind>(
             Ok(())
         }
         Err(refusal) => {
-            let why = RefusalText(refusal);
-            eprintln!(rt; "look: {why}")?;
+            eprintln!(rt; "look: {refusal}")?;
             Err(anyhow!("refused"))
         }
     }
@@ -99,8 +98,7 @@ fn look<V: Kind>(
     let machine = match machine_of::<V>(rt.alloc(), file, request.rounds) {
         Ok(machine) => machine,
         Err(problem) => {
-            let why = ProblemText(problem);
-            eprintln!(rt; "look: {why}")?;
+            eprintln!(rt; "look: {problem}")?;
             return Err(anyhow!("refused"));
         }
     };
@@ -130,10 +128,9 @@ fn main(rt: HostRuntime) -> anyhow::Result<ExitCode> {
             return Ok(ExitCode::FAILURE);
         }
     };
-    let shown = if file.get(2).copied() == Some(Truth::BYTE) {
-        look::<Truth>(&rt, "truth values", file.as_slice(), &request)
-    } else {
-        look::<Words>(&rt, "words", file.as_slice(), &request)
+    let shown = match KnownKind::of(file.as_slice()) {
+        KnownKind::Words => look::<Words>(&rt, "words", file.as_slice(), &request),
+        KnownKind::Truth => look::<Truth>(&rt, "truth values", file.as_slice(), &request),
     };
     match shown {
         Ok(()) => Ok(ExitCode::SUCCESS),

@@ -2,4 +2,3 @@ pub mod Reports
 pub mod Stops
 pub mod Players
 pub mod Counts
-pub mod Hosts
