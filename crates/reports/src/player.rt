@@ -83,7 +83,8 @@ fn played<M: Player>(machine: &M, numbers: &[u8], counts: &mut [u8], cells: &mut
     report
 }
 
-// Runs over a list of numbers, and writes a count for each number that is read, and the cells that the run leaves.
+// Runs over a list of numbers, and writes a count for each number that is read, and the cells that the run leaves. The
+// three buffers are the caller's, each lent in its own way, and a struct of them would be made for this one call.
 pub fn play<M: Player>(
     machine: &M,
     numbers: &[u8],

@@ -40,6 +40,7 @@ impl<V: Kind> Machine<V> {
     pub fn run_slot(&self, state: &mut State, i: Thread, n: SlotCount) -> Slot
         ensures { ran result state.new ≡ run V.meaning (program self.now) i n.0 0 state.old }
     {
+        // There is no list of statements to go over: each says which one is next.
         for d in 0..n.0 {
             if let Err(stop) = self.step(state, i) {
                 return stopped(stop, d);
