@@ -3,9 +3,9 @@ use Rattle.std.proofs.Common.{◌≡◌, ℕ, Bool, true, false, cond, List, Som
 use Rattle.kinds.specs.declared.kind.Kind.{Ghosts}
 use Rattle.kinds.specs.Meaning.{Meaning}
 use Rattle.agreement.specs.Agreement.{guessed}
-use Rattle.jobs.specs.declared.counts.Counts.{Counts}
+use Rattle.walks.specs.declared.counts.Counts.{Counts}
 use Rattle.jobs.specs.declared.job.Job.{Job}
-use Rattle.jobs.specs.Counts.{yes_or, walk_answer}
+use Rattle.reports.specs.Counts.{yes_or, walk_answer}
 use Rattle.jobs.specs.Keeps.{Keeps}
 use Rattle.jobs.specs.Models.{Model, loaded, translated, few, load_next, rounds_no, translate_answer, translate_next, walk_reply}
 use Rattle.questions.specs.Answer.{Answer, accepted}

@@ -4,8 +4,8 @@ use Rattle.kinds.specs.Meaning.{Meaning}
 use Rattle.kinds.specs.Truth.{truth}
 use Rattle.kinds.specs.Words.{words}
 use Rattle.agreement.specs.Agreement.{guessed}
-use Rattle.jobs.specs.declared.counts.Counts.{Counts}
-use Rattle.jobs.specs.Counts.{yes_or, walk_answer}
+use Rattle.walks.specs.declared.counts.Counts.{Counts}
+use Rattle.reports.specs.Counts.{yes_or, walk_answer}
 use Rattle.jobs.specs.Models.{rounds_no}
 use Rattle.questions.specs.Answer.{Answer}
 use Rattle.questions.specs.Question.{question}

@@ -5,7 +5,7 @@ ghost use Rattle.jobs.specs.Keeps.{Keeps};
 ghost use Rattle.jobs.specs.Models.{Model};
 ghost use Rattle.burner.specs.Quicks.{counts_of, kind_of, twelve, told, Quick};
 
-use jobs::counts::Counts;
+use walks::counts::Counts;
 use jobs::job::Job;
 use kinds::{Kind, Truth, Words};
 use records::lookup::item_or;

@@ -13,7 +13,7 @@ use Rattle.walks.specs.declared.outcome.Outcome.{Outcome}
 use Rattle.walks.specs.declared.outcome.Outcome.TheVariants.{Open, Ended}
 use Rattle.walks.specs.Leaves.{Leaf, Before, Ascending, Complete, leaves}
 use Rattle.walks.specs.Tallies.{ends_so, count}
-use Rattle.jobs.specs.Counts.{total}
+use Rattle.reports.specs.Counts.{total}
 use Rattle.jobs.specs.Promises.{Number}
 
 all_both : {X : Type 0} (P Q : X → Type 0) (xs : List X) → AllByRecursion P xs → AllByRecursion Q xs → AllByRecursion (λ x. P x × Q x) xs

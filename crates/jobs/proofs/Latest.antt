@@ -11,7 +11,7 @@ use Rattle.walks.specs.declared.outcome.Ending.TheVariants.{Failed}
 use Rattle.walks.specs.declared.outcome.Outcome.{Outcome}
 use Rattle.walks.specs.Leaves.{Before, Complete, leaves}
 use Rattle.walks.specs.Tallies.{Failing, fails, ends_so, count, latest}
-use Rattle.jobs.specs.Counts.{total}
+use Rattle.reports.specs.Counts.{total}
 
 module _ (out : List ℕ → Outcome) (rows : List (List ℕ)) where
   abbrev failing : List ℕ → Bool

@@ -1,4 +1,3 @@
-pub mod Walking
 pub mod Making
 pub mod Standing
 pub mod Running

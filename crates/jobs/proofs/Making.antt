@@ -16,7 +16,7 @@ use Rattle.threads.specs.declared.machine.Machine.{Machine}
 use Rattle.threads.specs.Machines.{program, rounds_asked, rounds_after}
 use Rattle.jobs.specs.declared.job.Job.{Job}
 use Rattle.jobs.specs.declared.job.Stage.TheVariants.{Empty}
-use Rattle.jobs.specs.Counts.{yes_or}
+use Rattle.reports.specs.Counts.{yes_or}
 use Rattle.jobs.specs.Keeps.{Keeps, HasTranslation}
 use Rattle.jobs.specs.Models.{Model, empty, loaded, translated, few, load_next, translate_answer, translate_next}
 

@@ -18,7 +18,7 @@ use Rattle.walks.specs.Leaves.{Leaf, Before, Complete, leaves}
 use Rattle.walks.specs.Tallies.{Failing, fails, fills}
 use Rattle.walks.specs.Walks.{answer_at}
 use Rattle.walks.proofs.Rows.{complete}
-use Rattle.jobs.specs.Counts.{total, counts_at}
+use Rattle.reports.specs.Counts.{total, counts_at}
 use Rattle.jobs.specs.Models.{Model, empty, loaded, translated, after, latest_found}
 use Rattle.jobs.specs.Promises.{Number, FoundSoFar, Finished, Promised, Good, CountsAgree}
 use Rattle.jobs.proofs.Enumerating.{number_same, number_mapped, number_first, number_all, ends_as}

@@ -1,5 +1,6 @@
 -- What Play, Drive and Found tell of a translated job.
 use Rattle.std.proofs.Common.{◌≡◌, ℕ, List, length, Some, None, Option, Result, sym, ap, ◌∙◌, subst, ap₂}
+use Rattle.std.proofs.lemmas.Option.{none-some}
 use Rattle.kinds.specs.declared.kind.Kind.{Ghosts}
 use Rattle.agreement.specs.Agreement.{play_told}
 use Rattle.kinds.specs.Meaning.{Meaning, Lawful}
@@ -22,9 +23,10 @@ use Rattle.threads.specs.Machines.{program, plays}
 use Rattle.threads.specs.Plays.{play, cells_of}
 use Rattle.threads.specs.Reports as threads
 use Rattle.walks.specs.declared.found.Found.{Found}
+use Rattle.walks.specs.declared.tally.Latest.{Latest}
 use Rattle.walks.specs.declared.tally.Tally.{Tally}
 use Rattle.walks.specs.Leaves.{leaves}
-use Rattle.walks.specs.Tallies.{latest, latest_list, list_found, as_failing}
+use Rattle.walks.specs.Tallies.{latest, latest_list, list_found, place, as_failing}
 use Rattle.jobs.specs.declared.job.Job.{Job}
 use Rattle.jobs.specs.Keeps.{HasTranslation}
 use Rattle.jobs.specs.Models.{Lent, lent_as, lent, latest_found, Shown, shown, unshown, found_so}
@@ -66,23 +68,29 @@ module _ {V : Type 0} {G : Ghosts V} (k : Meaning) (j : Job V G) (ns counts cell
   pub drive_lawful : Lawful k → (p : Program) (r v u : ℕ) → HasTranslation k j p r v u → LawfulCodes k (drives.cells_of p (drive k p r ns).state)
   drive_lawful laws p r v u h = drive_codes k laws p h.exists r ns
 
+-- what was found last, by where it was found
+nowhere : (o : Option Latest) → place o ≡ None → as_failing o ≡ None
+nowhere None e = refl
+nowhere (Some l) e = absurd (none-some _ (sym e))
+
+somewhere : (o : Option Latest) (f : Found) → place o ≡ Some f → as_failing o ≡ Some (record { position = f.position; numbers = list_found o })
+somewhere None f e = absurd (none-some f e)
+somewhere (Some l) f e = let same : l.position ≡ f.position = (let z = e in cc) in ap (λ n. Some (record { position = n; numbers = l.numbers.items })) same
+
 module _ {V : Type 0} {G : Ghosts V} (k : Meaning) (j : Job V G) (guesses schedule : List ℕ) where
   abbrev tally : Tally
   tally = j.walk.tally
 
   -- what Walk found last, as the leaves have it
-  found_is : (p : Program) (r v u : ℕ) → HasTranslation k j p r v u → as_failing tally.found tally.numbers ≡ latest_found k p r v
+  found_is : (p : Program) (r v u : ℕ) → HasTranslation k j p r v u → as_failing tally.latest ≡ latest_found k p r v
   found_is p r v u h = h.walk.counted.latest ∙ ap₂ (λ out n. latest out (leaves out) n) (guessed_is k j p r v u h) h.walked
 
-  pub found_none : tally.found ≡ None → (p : Program) (r v u : ℕ) → HasTranslation k j p r v u → unshown NothingFound guesses schedule ≡ found_so k p r (latest_found k p r v) guesses schedule
-  found_none e p r v u h = ap (λ f. found_so k p r f guesses schedule) (ap (λ o. as_failing o tally.numbers) (sym e) ∙ found_is p r v u h)
+  pub found_none : place tally.latest ≡ None → (p : Program) (r v u : ℕ) → HasTranslation k j p r v u → unshown NothingFound guesses schedule ≡ found_so k p r (latest_found k p r v) guesses schedule
+  found_none e p r v u h = ap (λ f. found_so k p r f guesses schedule) (sym (nowhere tally.latest e) ∙ found_is p r v u h)
 
-  pub found_some : (f : Found) (t : Shown) → tally.found ≡ Some f → t ≡ shown (latest_list tally) (drives_so k j.sequential.sequence (latest_list tally)).counts guesses schedule
+  pub found_some : (f : Found) (t : Shown) → place tally.latest ≡ Some f → t ≡ shown (latest_list tally) (drives_so k j.sequential.sequence (latest_list tally)).counts guesses schedule
       → (p : Program) (r v u : ℕ) → HasTranslation k j p r v u → t ≡ found_so k p r (latest_found k p r v) guesses schedule
   found_some f t e et p r v u h =
-      let ns = latest_list tally in
-      let same : ns ≡ list_found (Some f) tally.numbers = ap (λ o. list_found o tally.numbers) e in
       et
-      ∙ ap (λ (d : Driven). shown ns d.counts guesses schedule) (drives_translated k j.sequential.sequence p r ns h.holds)
-      ∙ ap (λ l. shown l (drive k p r l).counts guesses schedule) same
-      ∙ ap (λ f. found_so k p r f guesses schedule) (ap (λ o. as_failing o tally.numbers) (sym e) ∙ found_is p r v u h)
+      ∙ ap (λ (d : Driven). shown (latest_list tally) d.counts guesses schedule) (drives_translated k j.sequential.sequence p r (latest_list tally) h.holds)
+      ∙ ap (λ f. found_so k p r f guesses schedule) (sym (somewhere tally.latest f e) ∙ found_is p r v u h)

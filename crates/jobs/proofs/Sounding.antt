@@ -13,7 +13,7 @@ use Rattle.tables.specs.Program.{Program}
 use Rattle.tables.specs.WellFormed.{WellFormed}
 use Rattle.tables.proofs.Wells.{well}
 use Rattle.walks.specs.declared.outcome.Outcome.{Outcome}
-use Rattle.jobs.specs.Counts.{total, onward, walk_no, walk_next}
+use Rattle.reports.specs.Counts.{total, onward, walk_no, walk_next}
 use Rattle.jobs.specs.Models.{Model, empty, loaded, translated, Call, load, translate, walk, survey, play, drive, found, save, emit, few, load_next, next, after}
 use Rattle.jobs.specs.Promises.{Given}
 

@@ -16,11 +16,11 @@ use Rattle.threads.specs.declared.point.Point.{Point}
 use Rattle.threads.specs.Points as threads
 use Rattle.walks.specs.declared.walk.Walk.{Walk}
 use Rattle.walks.specs.Walks.{Tied}
-use Rattle.jobs.specs.declared.counts.Counts.{Counts}
+use Rattle.walks.specs.declared.counts.Counts.{Counts}
 use Rattle.jobs.specs.declared.job.Job.{Job}
 use Rattle.jobs.specs.declared.job.Stage.{Stage}
 use Rattle.jobs.specs.declared.job.Stage.TheVariants.{Empty, Loaded, Translated}
-use Rattle.jobs.specs.Counts.{walk_answer, walk_next, Walked}
+use Rattle.reports.specs.Counts.{walk_answer, walk_next, Walked}
 use Rattle.jobs.specs.Keeps.{Keeps, HasTranslation, threads_outcome, sequential_outcome}
 use Rattle.jobs.specs.Models.{Model, empty, loaded, translated, walk_reply, survey_reply, walked, surveyed}
 

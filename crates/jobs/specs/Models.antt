@@ -15,8 +15,8 @@ use Rattle.tables.specs.Encoded.{encoded}
 use Rattle.tables.specs.Program.{Program, decoded}
 use Rattle.walks.specs.Leaves.{leaves}
 use Rattle.walks.specs.Tallies.{Failing, latest}
-use Rattle.jobs.specs.declared.counts.Counts.{Counts}
-use Rattle.jobs.specs.Counts.{yes_or, walk_answer, walk_next}
+use Rattle.walks.specs.declared.counts.Counts.{Counts}
+use Rattle.reports.specs.Counts.{yes_or, walk_answer, walk_next}
 
 -- Empty; loaded, with its program; or translated, with its rounds too, and how many leaves Walk and Survey have visited.
 pub data Model : Type 0 where

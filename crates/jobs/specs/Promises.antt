@@ -8,8 +8,8 @@ use Rattle.tables.specs.Program.{Program}
 use Rattle.walks.specs.declared.outcome.Ending.TheVariants.{Failed, Full}
 use Rattle.walks.specs.declared.walk.Answer.TheVariants.{Done}
 use Rattle.walks.specs.Tallies.{Failing}
-use Rattle.jobs.specs.declared.counts.Counts.{Counts}
-use Rattle.jobs.specs.Counts.{counts_at}
+use Rattle.walks.specs.declared.counts.Counts.{Counts}
+use Rattle.reports.specs.Counts.{counts_at}
 use Rattle.jobs.specs.Models.{Model, empty, loaded, translated, Call, load, translate, walk, survey, play, drive, found, save, emit, after, latest_found}
 
 -- n lists have the property: so long is the list of all of them in dictionary order, and any such list

@@ -1,5 +1,4 @@
 // A job: one program, its two machines, and how far the walk over each has come.
 #![tactic(auto)]
 
-pub mod counts;
 pub mod job;

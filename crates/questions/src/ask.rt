@@ -1,20 +1,20 @@
 // The questions on one record, in their order: the first no refuses.
-ghost use Rattle.std.specs.Prelude.{◌≡◌, length};
-ghost use Rattle.records.specs.Lines.{seen, body as behind};
-ghost use Rattle.questions.specs.Asks.{ask_header, ask_cell, ask_thread, ask_fields, ask_known, ask_statement, ask as asked, exists as there, target as aimed, named as created_before};
+ghost use Rattle.std.specs.Prelude.{◌≡◌};
+ghost use Rattle.records.specs.Lines.{seen};
+ghost use Rattle.records.specs.Verdict.{bad};
+ghost use Rattle.questions.specs.Asks.{ask_header, ask_cell, ask_thread, ask_fields, ask_known, ask_statement, ask as asked, unmarked, exists as there, target as aimed, named as created_before};
 
 use crate::context::{Context, Due};
 use kinds::Kind;
-use records::body::{Used, fields, statement, unused, word};
+use records::body::{Body, Used, fields, statement, unused, word};
 use records::reader::Record;
 use records::refusal::{RecordError, Refusal, require};
 use records::statement::{Place, Statement, Thread};
 
-fn header<V: Kind>(body: &[u8]) -> Result<(), RecordError>
-    requires { length body.now ≡ 8 }
+fn header<V: Kind>(body: &Body) -> Result<(), RecordError>
     ensures { result ≡ ask_header V.meaning body.now }
 {
-    require(body[0] == V::kind_byte(), Refusal::KindByte, 2)?;
+    require(body[0] == V::BYTE, Refusal::KindByte, 2)?;
     require(body[1] <= 16, Refusal::Counts, 3)?;
     require(body[2] <= 8, Refusal::Counts, 4)?;
     require(1 <= body[3] && body[3] <= 8, Refusal::Counts, 5)?;
@@ -30,8 +30,7 @@ fn header<V: Kind>(body: &[u8]) -> Result<(), RecordError>
 }
 
 // The cell that has to have the index `i`.
-fn cell<V: Kind>(i: u8, body: &[u8]) -> Result<(), RecordError>
-    requires { length body.now ≡ 8 }
+fn cell<V: Kind>(i: u8, body: &Body) -> Result<(), RecordError>
     ensures { result ≡ ask_cell V.meaning i body.now }
 {
     require(body[0] == i, Refusal::Index, 2)?;
@@ -48,8 +47,7 @@ fn cell<V: Kind>(i: u8, body: &[u8]) -> Result<(), RecordError>
 }
 
 // The thread that has to have the index `i`.
-fn thread(i: u8, body: &[u8]) -> Result<(), RecordError>
-    requires { length body.now ≡ 8 }
+fn thread(i: u8, body: &Body) -> Result<(), RecordError>
     ensures { result ≡ ask_thread i body.now }
 {
     require(body[0] == i, Refusal::Index, 2)?;
@@ -81,20 +79,22 @@ impl Context {
     fn named(&self, j: Thread) -> bool
         ensures { result ≡ created_before self.now j.0 }
     {
-        let at = j.0 as usize;
-        if at < 8 { self.created[at] } else { false }
+        self.created.get(usize::from(j.0)).copied().unwrap_or(false)
     }
 
     // Does the label `t` lie above the statement's own number `n`, and at most at the end?
     fn target(&self, n: u8, t: u32) -> Result<(), RecordError>
         ensures { result ≡ aimed self.now n t }
     {
-        require((n as u32) < t && t <= self.size as u32, Refusal::Target, 6)
+        require(
+            u32::from(n) < t && t <= u32::from(self.size),
+            Refusal::Target,
+            6,
+        )
     }
 
     // The fields of the statement numbered `n`.
-    fn fields<V: Kind>(&self, n: u8, body: &[u8], s: Statement) -> Result<(), RecordError>
-        requires { length body.now ≡ 8 }
+    fn fields<V: Kind>(&self, n: u8, body: &Body, s: Statement) -> Result<(), RecordError>
         ensures { result ≡ ask_fields V.meaning self.now n body.now s }
     {
         match s {
@@ -135,8 +135,7 @@ impl Context {
     }
 
     // The questions on a statement whose op is known.
-    fn known<V: Kind>(&self, n: u8, body: &[u8]) -> Result<(), RecordError>
-        requires { length body.now ≡ 8 }
+    fn known<V: Kind>(&self, n: u8, body: &Body) -> Result<(), RecordError>
         ensures { result ≡ ask_known V.meaning self.now n body.now }
     {
         unused(body, fields(body[0]))?;
@@ -144,17 +143,26 @@ impl Context {
     }
 
     // The questions on the statement numbered `n`.
-    fn statement<V: Kind>(&self, n: u8, body: &[u8]) -> Result<(), RecordError>
-        requires { length body.now ≡ 8 }
+    fn statement<V: Kind>(&self, n: u8, body: &Body) -> Result<(), RecordError>
         ensures { result ≡ ask_statement V.meaning self.now n body.now }
     {
         require(1 <= body[0] && body[0] <= 16, Refusal::Operation, 2)?;
         self.known::<V>(n, body)
     }
 
+    // The answer to a record that is not the one due.
+    pub(crate) fn unmarked(&self) -> RecordError
+        ensures { bad result.refusal result.byte ≡ unmarked self.now.due }
+    {
+        let refusal = match self.due {
+            Due::End => Refusal::Trailing,
+            _ => Refusal::Mark,
+        };
+        RecordError { refusal, byte: 0 }
+    }
+
     // The questions on a record: is it the one due, and then its own.
     pub fn ask<V: Kind>(&self, r: Record) -> Result<(), RecordError>
-        requires { length (behind (seen r)) ≡ 8 }
         ensures { result ≡ asked V.meaning self.now (seen r.entry) }
     {
         match (self.due, r) {
@@ -162,14 +170,7 @@ impl Context {
             (Due::Cell(i), Record::Sc(_, body)) => cell::<V>(i, body),
             (Due::Thread(i), Record::Th(_, body)) => thread(i, body),
             (Due::Statement(n), Record::St(_, body)) => self.statement::<V>(n, body),
-            (Due::End, _) => Err(RecordError {
-                refusal: Refusal::Trailing,
-                byte: 0,
-            }),
-            _ => Err(RecordError {
-                refusal: Refusal::Mark,
-                byte: 0,
-            }),
+            _ => Err(self.unmarked()),
         }
     }
 }

@@ -1,7 +1,7 @@
 // What the records so far have said.
 
 // The record that is due: a cell or a thread by its index, a statement by its own number.
-#[derive(Clone, Copy)]
+#[derive(Clone, Copy, PartialEq, Eq)]
 pub enum Due {
     Header,
     Cell(u8),
@@ -10,7 +10,7 @@ pub enum Due {
     End,
 }
 
-#[derive(Clone, Copy)]
+#[derive(Clone, Copy, PartialEq, Eq)]
 pub struct Context {
     pub due: Due,
     pub cells: u8,

@@ -1,9 +1,10 @@
 // What is due behind a record.
-ghost use Rattle.std.specs.Prelude.{◌≡◌, ◌<◌, length};
-ghost use Rattle.records.specs.Lines.{seen, body as behind};
+ghost use Rattle.std.specs.Prelude.{◌≡◌, ◌<◌};
+ghost use Rattle.records.specs.Lines.{seen};
 ghost use Rattle.questions.specs.Past.{past as passed, start as beginning, names, from_cell, from_thread, from_statement, begun, past_thread, past_statement, Sound};
 
 use crate::context::{Context, Due};
+use records::body::Body;
 use records::reader::Record;
 
 // What is due from thread `i` on.
@@ -41,11 +42,10 @@ fn from_statement(size: u8, threads: u8, i: u8, n: u8) -> Due
 }
 
 // The threads that a CREATE has named, behind a statement.
-fn named(mut created: [bool; 8], body: &[u8]) -> [bool; 8]
-    requires { length body.now ≡ 8 }
+fn named(mut created: [bool; 8], body: &Body) -> [bool; 8]
     ensures { result ≡ names created body.now }
 {
-    let j = body[1] as usize;
+    let j = usize::from(body[1]);
     if body[0] == 15 && j < 8 {
         created[j] = true;
     }
@@ -70,48 +70,47 @@ impl Context {
     }
 
     // Behind a PG record.
-    fn begun(body: &[u8]) -> Context
-        requires { length body.now ≡ 8 }
+    fn begun(body: &Body) -> Context
         ensures { result ≡ begun body.now }
     {
-        let mut x = Context::start();
-        x.cells = body[1];
-        x.mutexes = body[2];
-        x.threads = body[3];
-        x.due = from_cell(body[1], body[3], 0);
-        x
+        Context {
+            due: from_cell(body[1], body[3], 0),
+            cells: body[1],
+            mutexes: body[2],
+            threads: body[3],
+            ..Context::start()
+        }
     }
 
     // Behind the TH record of thread `i`.
-    fn past_thread(&self, i: u8, body: &[u8]) -> Context
-        requires eight { length body.now ≡ 8 }
+    fn past_thread(&self, i: u8, body: &Body) -> Context
         requires sound { i < self.now.threads }
         ensures { result ≡ past_thread self.now i body.now }
     {
-        let mut x = *self;
-        x.thread = i;
-        x.locals = body[1];
-        x.size = body[2];
-        x.due = from_statement(body[2], self.threads, i, 0);
-        x
+        Context {
+            due: from_statement(body[2], self.threads, i, 0),
+            thread: i,
+            locals: body[1],
+            size: body[2],
+            ..*self
+        }
     }
 
     // Behind the ST record of the thread's statement `n`.
-    fn past_statement(&self, n: u8, body: &[u8]) -> Context
-        requires eight { length body.now ≡ 8 }
+    fn past_statement(&self, n: u8, body: &Body) -> Context
         requires sound { self.now.thread < self.now.threads }
         requires due { n < self.now.size }
         ensures { result ≡ past_statement self.now n body.now }
     {
-        let mut x = *self;
-        x.created = named(self.created, body);
-        x.due = from_statement(self.size, self.threads, self.thread, n + 1);
-        x
+        Context {
+            due: from_statement(self.size, self.threads, self.thread, n + 1),
+            created: named(self.created, body),
+            ..*self
+        }
     }
 
     // The context behind a record that is the one due.
     pub fn past(&self, r: Record) -> Context
-        requires eight { length (behind (seen r)) ≡ 8 }
         requires sound { Sound self.now }
         ensures { result ≡ passed self.now (seen r.entry) }
     {
@@ -121,11 +120,10 @@ impl Context {
         };
         match self.due {
             Due::Header => Context::begun(body),
-            Due::Cell(i) => {
-                let mut x = *self;
-                x.due = from_cell(self.cells, self.threads, i + 1);
-                x
-            }
+            Due::Cell(i) => Context {
+                due: from_cell(self.cells, self.threads, i + 1),
+                ..*self
+            },
             Due::Thread(i) => self.past_thread(i, body),
             Due::Statement(n) => self.past_statement(n, body),
             Due::End => *self,

@@ -1,35 +1,22 @@
 // The questions on a file.
-ghost use Rattle.std.specs.Prelude.{◌≡◌, ◌/◌, ◌<◌, length, MatchResult};
-ghost use Rattle.questions.specs.Asks.{ask as asked_of, unmarked};
-ghost use Rattle.records.specs.Lines.{line};
+ghost use Rattle.std.specs.Prelude.{◌≡◌, MatchResult};
+ghost use Rattle.questions.specs.Asks.{ask as asked_of};
 ghost use Rattle.questions.specs.Past.{Sound, past as passed};
 ghost use Rattle.records.specs.Verdict.{fine, bad};
 ghost use Rattle.questions.specs.Question.{question as asked, ended};
 
 use crate::context::{Context, Due};
 use kinds::Kind;
-use records::reader::record_at;
+use records::reader::{Line, Record, lines};
 use records::refusal::{LoadError, RecordError, Refusal};
 
-// A record whose mark no record has.
-fn unknown(x: &Context) -> RecordError
-    ensures { bad result.refusal result.byte ≡ unmarked x.now.due }
+// The questions on the record in line `i`, and what is due behind it.
+fn step<V: Kind>(x: &Context, i: usize, line: &Line) -> Result<Context, RecordError>
+    requires { Sound x.now }
+    ensures { MatchResult result (λ y. (asked_of V.meaning x.now line.now ≡ fine) × (y ≡ passed x.now line.now) × Sound y) (λ p. asked_of V.meaning x.now line.now ≡ bad p.refusal p.byte) }
 {
-    let refusal = match x.due {
-        Due::End => Refusal::Trailing,
-        _ => Refusal::Mark,
-    };
-    RecordError { refusal, byte: 0 }
-}
-
-// The questions on record `i`, and what is due behind it.
-fn step<V: Kind>(x: &Context, file: &[u8], i: usize) -> Result<Context, RecordError>
-    requires there { i < length file.now / 10 }
-    requires sound { Sound x.now }
-    ensures { MatchResult result (λ y. (asked_of V.meaning x.now (line file.now i) ≡ fine) × (y ≡ passed x.now (line file.now i)) × Sound y) (λ p. asked_of V.meaning x.now (line file.now i) ≡ bad p.refusal p.byte) }
-{
-    let Some(r) = record_at(file, i) else {
-        return Err(unknown(x));
+    let Some(r) = Record::read(i, line) else {
+        return Err(x.unmarked());
     };
     x.ask::<V>(r)?;
     Ok(x.past(r))
@@ -60,17 +47,9 @@ pub fn question<V: Kind>(file: &[u8]) -> Result<(), LoadError>
             byte: 0,
         });
     }
-    let n = file.len() / 10;
     let mut x = Context::start();
-    for i in 0..n {
-        match step::<V>(&x, file, i) {
-            Ok(y) => x = y,
-            Err(e) => return Err(LoadError {
-                refusal: e.refusal,
-                record: i,
-                byte: e.byte,
-            }),
-        }
+    for (i, line) in lines(file).iter().enumerate() {
+        x = step::<V>(&x, i, line).map_err(|e| e.in_record(i))?;
     }
-    end(&x, n)
+    end(&x, file.len() / 10)
 }

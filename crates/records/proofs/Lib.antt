@@ -1,5 +1,4 @@
-pub mod Split
+pub mod Chunks
 pub mod Writes
-pub mod Parts
 pub mod Rooms
 pub mod Fills

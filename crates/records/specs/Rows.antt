@@ -1,5 +1,7 @@
 -- The ten bytes of a record.
-use Rattle.std.specs.Prelude.{ℕ, ◌+◌, ◌/◌, ◌%◌, List, [], ◌∷◌}
+use Rattle.std.specs.Prelude.{ℕ, ◌+◌, ◌/◌, ◌%◌, List, [], ◌∷◌, ◌++◌}
+use Rattle.records.specs.declared.row.Mark.{Mark}
+use Rattle.records.specs.declared.row.Mark.TheVariants.{Pg, Sc, Th, St, Sq, Se, In}
 use Rattle.records.specs.declared.statement.Place.{Place}
 use Rattle.records.specs.declared.statement.Place.TheVariants.{Shared, Local}
 use Rattle.records.specs.declared.statement.Statement.{Statement}
@@ -12,6 +14,20 @@ four n = n / 16777216 % 256 ∷ n / 65536 % 256 ∷ n / 256 % 256 ∷ n % 256 �
 -- a record: the two bytes of its mark, op, d, a, b and c
 abbrev pub row : ℕ → ℕ → ℕ → ℕ → ℕ → ℕ → ℕ → List ℕ
 row p q op d a b c = p ∷ q ∷ op ∷ d ∷ a ∷ b ∷ four c
+
+-- the two letters of a mark
+abbrev pub letters : Mark → List ℕ
+letters Pg = 80 ∷ 71 ∷ []
+letters Sc = 83 ∷ 67 ∷ []
+letters Th = 84 ∷ 72 ∷ []
+letters St = 83 ∷ 84 ∷ []
+letters Sq = 83 ∷ 81 ∷ []
+letters Se = 83 ∷ 69 ∷ []
+letters In = 73 ∷ 78 ∷ []
+
+-- a record of a mark
+abbrev pub marked : Mark → ℕ → ℕ → ℕ → ℕ → ℕ → List ℕ
+marked m op d a b c = letters m ++ op ∷ d ∷ a ∷ b ∷ four c
 
 -- local cells stand behind the sixteen shared ones
 abbrev pub place_byte : Place → ℕ

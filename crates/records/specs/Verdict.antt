@@ -1,5 +1,6 @@
 -- The answer to the questions on one record: yes to all, or the first no and the byte that it is about.
 use Rattle.std.specs.Prelude.{ℕ, Bool, cond, Ok, Err, Result}
+use Rattle.records.specs.declared.refusal.LoadError.{LoadError}
 use Rattle.records.specs.declared.refusal.Refusal.{Refusal}
 use Rattle.records.specs.declared.refusal.RecordError.{RecordError}
 
@@ -20,3 +21,7 @@ asked good why byte rest = cond good rest (bad why byte)
 abbrev pub then : Verdict → Verdict → Verdict
 then (Ok u) v = v
 then (Err e) v = Err e
+
+-- a refusal in the record i of a file
+abbrev pub located : RecordError → ℕ → LoadError
+located e i = record { refusal = e.refusal; «record» = i; byte = e.byte }

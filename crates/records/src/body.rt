@@ -1,9 +1,12 @@
 // The body of a record: the eight bytes behind its mark.
-ghost use Rattle.std.specs.Prelude.{◌≡◌, length};
-ghost use Rattle.records.specs.Bodies.{c as word_of, unused as blanks, fields as used_by, place_at, stores, tests, controls, statement as said};
+ghost use Rattle.std.specs.Prelude.{◌≡◌};
+ghost use Rattle.records.specs.Bodies.{c as word_of, unused as blanks, fields as used_by, stores, tests, controls, statement as said};
 
 use crate::refusal::{RecordError, Refusal, require};
 use crate::statement::{Label, Mutex, Place, Statement, Thread};
+
+// op, d, a, b and the four bytes of c.
+pub type Body = [u8; 8];
 
 // Which fields behind op a record uses.
 #[derive(Clone, Copy)]
@@ -15,16 +18,14 @@ pub struct Used {
 }
 
 // The four bytes of c, highest first.
-pub fn word(body: &[u8]) -> u32
-    requires { length body.now ≡ 8 }
+pub fn word(body: &Body) -> u32
     ensures { result ≡ word_of body.now }
 {
     u32::from_be_bytes([body[4], body[5], body[6], body[7]])
 }
 
 // Are the unused bytes zero?
-pub fn unused(body: &[u8], used: Used) -> Result<(), RecordError>
-    requires { length body.now ≡ 8 }
+pub fn unused(body: &Body, used: Used) -> Result<(), RecordError>
     ensures { result ≡ blanks used body.now }
 {
     require(used.d || body[1] == 0, Refusal::Unused, 3)?;
@@ -48,25 +49,13 @@ pub fn fields(op: u8) -> Used
     }
 }
 
-// Places 0 to 15 are the shared cells, and those from 16 on the local ones.
-fn place(byte: u8) -> Place
-    ensures { result ≡ place_at byte }
-{
-    if byte < 16 {
-        Place::Shared(byte)
-    } else {
-        Place::Local(byte - 16)
-    }
-}
-
 // Ops 1 to 6.
-fn store(body: &[u8]) -> Statement
-    requires { length body.now ≡ 8 }
+fn store(body: &Body) -> Statement
     ensures { result ≡ stores body.now }
 {
-    let d = place(body[1]);
-    let a = place(body[2]);
-    let b = place(body[3]);
+    let d = Place::from(body[1]);
+    let a = Place::from(body[2]);
+    let b = Place::from(body[3]);
     match body[0] {
         1 => Statement::Set { d, c: word(body) },
         2 => Statement::Copy { d, a },
@@ -78,11 +67,10 @@ fn store(body: &[u8]) -> Statement
 }
 
 // Ops 7 to 10. A label is the lowest byte of c: the questions see to it that the others are zero.
-fn test(body: &[u8]) -> Statement
-    requires { length body.now ≡ 8 }
+fn test(body: &Body) -> Statement
     ensures { result ≡ tests body.now }
 {
-    let a = place(body[2]);
+    let a = Place::from(body[2]);
     let t = Label(body[7]);
     match body[0] {
         7 => Statement::Jump { t },
@@ -93,8 +81,7 @@ fn test(body: &[u8]) -> Statement
 }
 
 // Ops 11 to 16.
-fn control(body: &[u8]) -> Statement
-    requires { length body.now ≡ 8 }
+fn control(body: &Body) -> Statement
     ensures { result ≡ controls body.now }
 {
     let m = Mutex(body[1]);
@@ -110,8 +97,7 @@ fn control(body: &[u8]) -> Statement
 }
 
 // The statement that the body of an ST record says.
-pub fn statement(body: &[u8]) -> Statement
-    requires { length body.now ≡ 8 }
+pub fn statement(body: &Body) -> Statement
     ensures { result ≡ said body.now }
 {
     match body[0] {

@@ -5,15 +5,15 @@ ghost use Rattle.std.specs.Prelude.{◌≡◌, ◌≤◌, length, take, drop, sl
 pub fn item_or<T: Copy>(items: &[T], at: u8, default: T) -> T
     ensures { result ≡ slice_index_or items.now at default }
 {
-    let at = at as usize;
-    if at < items.len() { items[at] } else { default }
+    items.get(usize::from(at)).copied().unwrap_or(default)
 }
 
 // Writes an item; where the table has no such place, nothing.
 pub fn set_item<T: Copy>(items: &mut [T], at: u8, x: T)
     ensures { items.new ≡ slice_set items.old at x }
 {
-    let at = at as usize;
+    // `get_mut` does not say what the slice ends as
+    let at = usize::from(at);
     if at < items.len() {
         items[at] = x;
     }
@@ -24,7 +24,6 @@ pub fn part_of<T>(items: &[T], first: usize, size: u8) -> &[T]
     ensures value { result.now ≡ take size (drop first items.now) }
     ensures few { length result.now ≤ size }
 {
-    let from = first.min(items.len());
-    let end = from.saturating_add(size as usize).min(items.len());
-    &items[from..end]
+    let rest = &items[first.min(items.len())..];
+    &rest[..rest.len().min(usize::from(size))]
 }

@@ -1,49 +1,50 @@
 // Why a call is refused, and where in a file.
 ghost use Rattle.std.specs.Prelude.{◌≡◌};
 ghost use Rattle.records.specs.Numbers.{number};
-ghost use Rattle.records.specs.Verdict.{asked, fine};
+ghost use Rattle.records.specs.Verdict.{asked, fine, located};
 
-#[derive(Clone, Copy)]
+// The numbers are those by which formats and programs name a refusal. The tens digit is the layer that refuses.
+#[derive(Clone, Copy, PartialEq, Eq)]
 pub enum Refusal {
     // the file as a whole
-    Length,
-    Mark,
-    Missing,
-    Trailing,
+    Length = 11,
+    Mark = 12,
+    Missing = 13,
+    Trailing = 14,
     // the layout of a record
-    KindByte,
-    Counts,
-    Index,
-    ThreadSize,
-    Unused,
+    KindByte = 21,
+    Counts = 22,
+    Index = 23,
+    ThreadSize = 24,
+    Unused = 25,
     // what a record says
-    Operation,
-    Place,
-    Code,
-    Target,
-    Mutex,
-    Thread,
-    CreatedTwice,
+    Operation = 31,
+    Place = 32,
+    Code = 33,
+    Target = 34,
+    Mutex = 35,
+    Thread = 36,
+    CreatedTwice = 37,
     // a call that comes too early, or whose arguments are outside their limits
-    NotLoaded,
-    Rounds,
-    NotTranslated,
-    Budget,
-    LeafLimit,
-    ListLength,
-    BufferShort,
-    NothingFound,
+    NotLoaded = 41,
+    Rounds = 42,
+    NotTranslated = 43,
+    Budget = 44,
+    LeafLimit = 45,
+    ListLength = 46,
+    BufferShort = 47,
+    NothingFound = 48,
 }
 
 // A refusal in one record, with the byte of the record at which the first bad field starts.
-#[derive(Clone, Copy)]
+#[derive(Clone, Copy, PartialEq, Eq)]
 pub struct RecordError {
     pub refusal: Refusal,
     pub byte: u8,
 }
 
 // A refusal in a file: the record, and the byte in it.
-#[derive(Clone, Copy)]
+#[derive(Clone, Copy, PartialEq, Eq)]
 pub struct LoadError {
     pub refusal: Refusal,
     pub record: usize,
@@ -62,35 +63,22 @@ pub fn require(good: bool, refusal: Refusal, byte: u8) -> Result<(), RecordError
 }
 
 impl Refusal {
-    // The number by which formats and programs name a refusal. Its tens digit is the layer that refuses.
     pub fn number(self) -> u8
         ensures { result ≡ number self }
     {
-        match self {
-            Refusal::Length => 11,
-            Refusal::Mark => 12,
-            Refusal::Missing => 13,
-            Refusal::Trailing => 14,
-            Refusal::KindByte => 21,
-            Refusal::Counts => 22,
-            Refusal::Index => 23,
-            Refusal::ThreadSize => 24,
-            Refusal::Unused => 25,
-            Refusal::Operation => 31,
-            Refusal::Place => 32,
-            Refusal::Code => 33,
-            Refusal::Target => 34,
-            Refusal::Mutex => 35,
-            Refusal::Thread => 36,
-            Refusal::CreatedTwice => 37,
-            Refusal::NotLoaded => 41,
-            Refusal::Rounds => 42,
-            Refusal::NotTranslated => 43,
-            Refusal::Budget => 44,
-            Refusal::LeafLimit => 45,
-            Refusal::ListLength => 46,
-            Refusal::BufferShort => 47,
-            Refusal::NothingFound => 48,
+        self as u8
+    }
+}
+
+impl RecordError {
+    // The same in record `i` of a file.
+    pub fn in_record(self, i: usize) -> LoadError
+        ensures { result ≡ located self i }
+    {
+        LoadError {
+            refusal: self.refusal,
+            record: i,
+            byte: self.byte,
         }
     }
 }

@@ -1,35 +1,45 @@
 // The bytes of a record.
 ghost use Rattle.std.specs.Prelude.{◌≡◌, ◌+◌, ◌≤◌, length};
-ghost use Rattle.records.specs.Rows.{row as ten, place_byte, statement_row};
+ghost use Rattle.records.specs.Rows.{letters, marked, statement_row};
 ghost use Rattle.records.specs.Wrote.{wrote, room_for as has_room};
 
 use crate::refusal::Refusal;
-use crate::statement::{Place, Statement};
+use crate::statement::Statement;
 
-// The two letters that a record begins with.
-#[derive(Clone, Copy)]
-pub struct Mark(pub u8, pub u8);
-
-const ST: Mark = Mark(b'S', b'T');
-
-impl Mark {
-    // A record with this mark: op, d, a, b and c.
-    pub fn row(self, op: u8, d: u8, a: u8, b: u8, c: u32) -> [u8; 10]
-        ensures { result ≡ ten self.0 self.1 op d a b c }
-    {
-        let s = c.to_be_bytes();
-        [self.0, self.1, op, d, a, b, s[0], s[1], s[2], s[3]]
-    }
+// The two letters that a record begins with. The last three are those of a sequential program's file.
+#[derive(Clone, Copy, PartialEq, Eq)]
+pub enum Mark {
+    Pg,
+    Sc,
+    Th,
+    St,
+    Sq,
+    Se,
+    In,
 }
 
-// The byte of a place. No table that was loaded has a local cell above 7; the sum wraps so that the byte is defined for
-// every place.
-pub fn byte(p: Place) -> u8
-    ensures { result ≡ place_byte p }
-{
-    match p {
-        Place::Shared(n) => n,
-        Place::Local(n) => n.wrapping_add(16),
+impl Mark {
+    fn letters(self) -> [u8; 2]
+        ensures { result ≡ letters self }
+    {
+        match self {
+            Mark::Pg => [b'P', b'G'],
+            Mark::Sc => [b'S', b'C'],
+            Mark::Th => [b'T', b'H'],
+            Mark::St => [b'S', b'T'],
+            Mark::Sq => [b'S', b'Q'],
+            Mark::Se => [b'S', b'E'],
+            Mark::In => [b'I', b'N'],
+        }
+    }
+
+    // A record with this mark: op, d, a, b and c.
+    pub fn row(self, op: u8, d: u8, a: u8, b: u8, c: u32) -> [u8; 10]
+        ensures { result ≡ marked self op d a b c }
+    {
+        let [p, q] = self.letters();
+        let [s, t, u, v] = c.to_be_bytes();
+        [p, q, op, d, a, b, s, t, u, v]
     }
 }
 
@@ -38,22 +48,28 @@ pub fn statement_row(s: Statement) -> [u8; 10]
     ensures { result ≡ statement_row s }
 {
     match s {
-        Statement::Set { d, c } => ST.row(1, byte(d), 0, 0, c),
-        Statement::Copy { d, a } => ST.row(2, byte(d), byte(a), 0, 0),
-        Statement::Sum { d, a, b } => ST.row(3, byte(d), byte(a), byte(b), 0),
-        Statement::Difference { d, a, b } => ST.row(4, byte(d), byte(a), byte(b), 0),
-        Statement::Less { d, a, b } => ST.row(5, byte(d), byte(a), byte(b), 0),
-        Statement::Same { d, a, b } => ST.row(6, byte(d), byte(a), byte(b), 0),
-        Statement::Jump { t } => ST.row(7, 0, 0, 0, t.0 as u32),
-        Statement::Branch { a, t } => ST.row(8, 0, byte(a), 0, t.0 as u32),
-        Statement::Assume { a } => ST.row(9, 0, byte(a), 0, 0),
-        Statement::Assert { a } => ST.row(10, 0, byte(a), 0, 0),
-        Statement::Init { m } => ST.row(11, m.0, 0, 0, 0),
-        Statement::Destroy { m } => ST.row(12, m.0, 0, 0, 0),
-        Statement::Lock { m } => ST.row(13, m.0, 0, 0, 0),
-        Statement::Unlock { m } => ST.row(14, m.0, 0, 0, 0),
-        Statement::Create { j } => ST.row(15, j.0, 0, 0, 0),
-        Statement::Join { j } => ST.row(16, j.0, 0, 0, 0),
+        Statement::Set { d, c } => Mark::St.row(1, u8::from(d), 0, 0, c),
+        Statement::Copy { d, a } => Mark::St.row(2, u8::from(d), u8::from(a), 0, 0),
+        Statement::Sum { d, a, b } => Mark::St.row(3, u8::from(d), u8::from(a), u8::from(b), 0),
+        Statement::Difference { d, a, b } => Mark::St.row(
+            4,
+            u8::from(d),
+            u8::from(a),
+            u8::from(b),
+            0,
+        ),
+        Statement::Less { d, a, b } => Mark::St.row(5, u8::from(d), u8::from(a), u8::from(b), 0),
+        Statement::Same { d, a, b } => Mark::St.row(6, u8::from(d), u8::from(a), u8::from(b), 0),
+        Statement::Jump { t } => Mark::St.row(7, 0, 0, 0, u32::from(t.0)),
+        Statement::Branch { a, t } => Mark::St.row(8, 0, u8::from(a), 0, u32::from(t.0)),
+        Statement::Assume { a } => Mark::St.row(9, 0, u8::from(a), 0, 0),
+        Statement::Assert { a } => Mark::St.row(10, 0, u8::from(a), 0, 0),
+        Statement::Init { m } => Mark::St.row(11, m.0, 0, 0, 0),
+        Statement::Destroy { m } => Mark::St.row(12, m.0, 0, 0, 0),
+        Statement::Lock { m } => Mark::St.row(13, m.0, 0, 0, 0),
+        Statement::Unlock { m } => Mark::St.row(14, m.0, 0, 0, 0),
+        Statement::Create { j } => Mark::St.row(15, j.0, 0, 0, 0),
+        Statement::Join { j } => Mark::St.row(16, j.0, 0, 0, 0),
     }
 }
 

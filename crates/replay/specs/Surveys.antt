@@ -18,7 +18,7 @@ use Rattle.replay.specs.Sessions.{wants_translated, first_no}
 module _ {V : Type 0} {G : Ghosts V} where
   -- no leaf is left
   abbrev pub over : Session V G → Bool
-  over s = s.survey.cursor.path.depth == 0
+  over s = s.survey.cursor.depth == 0
 
   -- the first no: translated, a budget from 1 to 65,536, and done or within 16,777,216 leaves
   abbrev pub survey_no : Session V G → ℕ → Option Refusal

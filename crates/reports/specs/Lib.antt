@@ -1,3 +1,4 @@
 pub mod Reports
 pub mod Stops
 pub mod Players
+pub mod Counts

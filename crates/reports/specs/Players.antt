@@ -1,10 +1,15 @@
 -- A run over a list of numbers, on any machine that reads them one by one.
 use Rattle.std.specs.Prelude.{ℕ, List, [], ◌∷◌}
+use Rattle.walks.specs.declared.outcome.Ending.{Ending}
 use Rattle.walks.specs.declared.outcome.Outcome.{Outcome}
 use Rattle.walks.specs.declared.outcome.Outcome.TheVariants.{Open, Ended}
 use Rattle.reports.specs.declared.report.Report.{Report}
 use Rattle.reports.specs.declared.report.Turn.{Turn}
 use Rattle.reports.specs.Reports.{report}
+
+-- a number with which the run has ended
+abbrev pub over : ℕ → Ending → Turn
+over c e = record { count = c; outcome = Ended e }
 
 -- what a number came to: its count, how the run stands then, and where
 pub record Turned (P : Type 0) : Type 0 where

@@ -1,9 +1,10 @@
 // The report of a run, and the questions that a call asks before it.
 ghost use Rattle.std.specs.Prelude.{◌≡◌, ◌+◌, ◌^◌, ◌<◌, length};
+ghost use Rattle.reports.specs.Players.{over};
 ghost use Rattle.reports.specs.Reports.{refusal, answered, noted};
 
 use records::refusal::Refusal;
-use walks::outcome::Outcome;
+use walks::outcome::{Ending, Outcome};
 
 // What a list of numbers came to: how many were read, and how many statements were carried out in all.
 #[derive(Clone, Copy)]
@@ -18,6 +19,18 @@ pub struct Report {
 pub struct Turn {
     pub count: u8,
     pub outcome: Outcome,
+}
+
+impl Turn {
+    // A number with which the run has ended.
+    pub fn ended(count: u8, ending: Ending) -> Turn
+        ensures { result ≡ over count ending }
+    {
+        Turn {
+            count,
+            outcome: Outcome::Ended(ending),
+        }
+    }
 }
 
 impl Report {

@@ -3,10 +3,10 @@ use Rattle.std.specs.Prelude.{ℕ, ◌+◌, ◌-◌, cond, List, ◌==◌, Ok, E
 use Rattle.std.specs.declared.ops.ControlFlow.{ControlFlow}
 use Rattle.std.specs.declared.ops.ControlFlow.TheVariants.{Continue, Break}
 use Rattle.kinds.specs.Meaning.{Meaning}
-use Rattle.walks.specs.declared.outcome.Ending.{Ending}
 use Rattle.walks.specs.declared.outcome.Ending.TheVariants as ending
-use Rattle.walks.specs.declared.outcome.Outcome.TheVariants.{Open, Ended}
+use Rattle.walks.specs.declared.outcome.Outcome.TheVariants.{Open}
 use Rattle.reports.specs.declared.report.Turn.{Turn}
+use Rattle.reports.specs.Players.{over}
 use Rattle.reports.specs.Stops.{End}
 use Rattle.reports.specs.Stops as stops
 use Rattle.sequences.specs.declared.instruction.Instruction.{Instruction}
@@ -16,10 +16,6 @@ use Rattle.sequences.specs.Acts.{Called, call}
 use Rattle.sequences.specs.Drives.{Move, slot, guess, enter, save, finish, stray, point}
 use Rattle.sequences.specs.States.{word, with_word}
 use Rattle.sequences.specs.Words.{active, saved, stop_at}
-
--- a turn that ends the run
-abbrev pub over : ℕ → Ending → Turn
-over c e = record { count = c; outcome = Ended e }
 
 -- a turn that waits for a number
 abbrev pub waiting : ℕ → ℕ → Turn

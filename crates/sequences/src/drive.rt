@@ -1,11 +1,11 @@
 // The run of the driver: from guess to guess.
 ghost use Rattle.std.specs.Prelude.{◌≡◌, ◌<◌, ◌≤◌, true, length, drop, is_some};
-ghost use Rattle.reports.specs.Players.{with_point};
+ghost use Rattle.reports.specs.Players.{with_point, over};
 ghost use Rattle.sequences.specs.Acts.{call as called_so};
 ghost use Rattle.sequences.specs.Drives.{move, move_of, first_move, proceeds, guessed, turn as turned_so};
 ghost use Rattle.sequences.specs.Passages.{with_state};
 ghost use Rattle.sequences.specs.Sequences.{codes_of, sections_of, guide_of, instructions, starts};
-ghost use Rattle.sequences.specs.Strides.{strode, entered, over, stride as strides_so};
+ghost use Rattle.sequences.specs.Strides.{strode, entered, stride as strides_so};
 
 use crate::instruction::{Address, Instruction, STOP_AT, Word};
 use crate::point::SeqPoint;
@@ -21,16 +21,6 @@ use walks::outcome::{Ending, Outcome};
 
 // The driver goes on behind an instruction with the latest CALL's count, or the turn is over.
 type Stride = ControlFlow<Turn, u8>;
-
-// A turn with which the run has ended.
-fn ended(count: u8, ending: Ending) -> Turn
-    ensures { result ≡ over count ending }
-{
-    Turn {
-        count,
-        outcome: Outcome::Ended(ending),
-    }
-}
 
 impl<V: Kind> Sequence<V> {
     // The initial codes of the cells.
@@ -78,7 +68,7 @@ impl<V: Kind> Sequence<V> {
                 at.at = Address(at.at.0 + 1);
                 ControlFlow::Continue(section.count)
             }
-            Err(stop) => ControlFlow::Break(ended(section.count, Ending::from(stop))),
+            Err(stop) => ControlFlow::Break(Turn::ended(section.count, Ending::from(stop))),
         }
     }
 
@@ -111,8 +101,8 @@ impl<V: Kind> Sequence<V> {
                 at.at = behind;
                 ControlFlow::Continue(count)
             }
-            Instruction::End => ControlFlow::Break(ended(count, Ending::Full)),
-            _ => ControlFlow::Break(ended(count, Ending::Cut)),
+            Instruction::End => ControlFlow::Break(Turn::ended(count, Ending::Full)),
+            _ => ControlFlow::Break(Turn::ended(count, Ending::Cut)),
         }
     }
 
@@ -122,7 +112,7 @@ impl<V: Kind> Sequence<V> {
     {
         match self.next(at.at) {
             Some(instruction) => self.obey(at, count, instruction),
-            None => ControlFlow::Break(ended(count, Ending::Cut)),
+            None => ControlFlow::Break(Turn::ended(count, Ending::Cut)),
         }
     }
 
@@ -131,13 +121,14 @@ impl<V: Kind> Sequence<V> {
         ensures { with_point result at.new ≡ proceeds V.meaning (instructions self.now) at.old.at.0 at.old.state }
     {
         let mut count = 0;
+        // Steps are counted so that the loop ends whatever the driver is.
         for _step in 0..self.driver.len() {
             match self.stride(at, count) {
                 ControlFlow::Continue(c) => count = c,
                 ControlFlow::Break(turn) => return turn,
             }
         }
-        ended(count, Ending::Cut)
+        Turn::ended(count, Ending::Cut)
     }
 
     // The number read by GUESS `i n` at a point.
@@ -147,7 +138,7 @@ impl<V: Kind> Sequence<V> {
     {
         let label = at.state.saved(i);
         if number > n.saturating_sub(label) {
-            return ended(0, Ending::Cut);
+            return Turn::ended(0, Ending::Cut);
         }
         at.state.set_word(STOP_AT, label + number);
         at.at = Address(at.at.0 + 1);
@@ -160,7 +151,7 @@ impl<V: Kind> Sequence<V> {
     {
         match self.next(at.at) {
             Some(Instruction::Guess { i, n }) => self.guess(at, i, n, number),
-            _ => ended(0, Ending::Cut),
+            _ => Turn::ended(0, Ending::Cut),
         }
     }
 

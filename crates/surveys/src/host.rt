@@ -4,16 +4,17 @@ ghost use Rattle.reports.specs.Reports.{front};
 ghost use Rattle.surveys.specs.Hosts.{Counted, twelve};
 
 use crate::setup::{Problem, machine_of};
-use crate::totals::{Survey, totals};
+use crate::totals::totals;
 use kinds::{Kind, Truth, Words};
 use std::alloc::Global;
+use walks::counts::Counts;
 use walks::walk::Answer;
 
 // What `survey` answers where there is no memory for a table; no refusal has this number.
 const NO_MEMORY: u32 = 99;
 
 // The totals of a file's schedules.
-fn counted<V: Kind>(heap: Global, file: &[u8], rounds: u32, b: u32) -> Result<Survey, Problem>
+fn counted<V: Kind>(heap: Global, file: &[u8], rounds: u32, b: u32) -> Result<Counts, Problem>
     ensures { Counted V.meaning file.now rounds b result }
 {
     match machine_of::<V>(heap, file, rounds) {
@@ -23,7 +24,7 @@ fn counted<V: Kind>(heap: Global, file: &[u8], rounds: u32, b: u32) -> Result<Su
 }
 
 // Writes the three totals, four bytes each, highest first.
-fn write_totals(out: &mut [u8], s: Survey)
+fn write_totals(out: &mut [u8], s: Counts)
     requires { 12 ≤ length out.old }
     ensures { out.new ≡ front (twelve s) out.old }
 {

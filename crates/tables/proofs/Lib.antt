@@ -5,5 +5,4 @@ pub mod Accepted
 pub mod Saves
 pub mod Creates
 pub mod Wells
-pub mod Texts
 pub mod Returns

@@ -1,5 +1,5 @@
 -- A program grows record by record.
-use Rattle.std.proofs.Common.{◌≡◌, ℕ, suc, ◌+◌, ◌*◌, ◌/◌, ◌<◌, ◌≤◌, Bool, true, false, cond, List, [], ◌∷◌, ◌++◌, map, length, drop, filter, sym, refl, ap, ◌∙◌, append_assoc, append-nil, arith, length-append}
+use Rattle.std.proofs.Common.{◌≡◌, ℕ, suc, ◌+◌, ◌/◌, ◌<◌, ◌≤◌, Bool, true, false, cond, List, [], ◌∷◌, ◌++◌, map, length, drop, filter, sym, refl, ap, ◌∙◌, append_assoc, append-nil, arith, length-append}
 use lib.ListN.{length-map}
 use Rattle.std.proofs.lemmas.Bool.{cond_both}
 use Rattle.tables.specs.declared.text.ThreadText.{ThreadText}
@@ -60,9 +60,6 @@ thread_room p at f i h e q =
 pub grown : (p q : Program) (at n : ℕ) (f : List ℕ) (i : ℕ) → i < length f / 10 → onto p at (drop i (lines f)) ≡ decoded f → q ≡ with_record p at (line f i) → n ≡ behind at (line f i) → onto q n (drop (i + 1) (lines f)) ≡ decoded f
 grown p q at n f i h e u v =
     ap (λ z. onto z n (drop (i + 1) (lines f))) u ∙ ap (λ z. onto (with_record p at (line f i)) z (drop (i + 1) (lines f))) v ∙ sym (onto_more p at f i h) ∙ e
-
-pub behind_most : (at : ℕ) (r : List ℕ) (m : ℕ) → at ≤ 255 * m → a (body r) ≤ 255 → behind at r ≤ 255 * (m + 1)
-behind_most at r m h k = cond_both (th r) (at + a (body r)) at (λ n. n ≤ 255 * (m + 1)) (λ _. omega arith) (λ _. omega arith)
 
 pub statements_most : (p : Program) (at : ℕ) (r : List ℕ) (m : ℕ) → length p.statements ≤ m → length (with_record p at r).statements ≤ m + 1
 statements_most p at r m h =

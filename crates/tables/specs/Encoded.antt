@@ -40,14 +40,14 @@ encoded byte p = flat (rows byte p)
 abbrev pub cell_bytes : ℕ → List ℕ → List ℕ
 cell_bytes i ns = flat (cell_rows i (drop i ns))
 
--- n statements from one on
-abbrev pub own_bytes : ℕ → ℕ → List Statement → List ℕ
-own_bytes from n ss = flat (map statement_row (take n (drop from ss)))
+-- some statements
+abbrev pub own_bytes : List Statement → List ℕ
+own_bytes ss = flat (map statement_row ss)
 
--- a thread, with n statements from one on
-abbrev pub own_thread_bytes : ℕ → ThreadText → ℕ → ℕ → List Statement → List ℕ
-own_thread_bytes i t from n ss = thread_row i t ++ own_bytes from n ss
+-- a thread with its statements
+abbrev pub own_thread_bytes : ℕ → ThreadText → List Statement → List ℕ
+own_thread_bytes i t ss = thread_row i t ++ own_bytes ss
 
--- the threads from index i on, with the statements from one on
-abbrev pub thread_bytes : ℕ → List ThreadText → ℕ → List Statement → List ℕ
-thread_bytes i ts from ss = flat (thread_rows i (drop i ts) (drop from ss))
+-- the threads from index i on, with the statements that are left
+abbrev pub thread_bytes : ℕ → List ThreadText → List Statement → List ℕ
+thread_bytes i ts ss = flat (thread_rows i (drop i ts) ss)

@@ -41,7 +41,7 @@ impl<V: Kind> Player for Machine<V> {
     }
 
     fn cells_at<'a>(&self, at: &'a Point) -> &'a [u32] {
-        &at.state.cells[0..self.cell_count()]
+        &at.state.cells[..self.table.cells().len()]
     }
 }
 

@@ -93,10 +93,7 @@ impl<V: Kind> Machine<V> {
         ensures { with_point result at.new ≡ turned_by V.meaning (program self.now) (total self.now) at.old number }
     {
         if at.slot >= self.slots() {
-            return Turn {
-                count: 0,
-                outcome: Outcome::Ended(Ending::Full),
-            };
+            return Turn::ended(0, Ending::Full);
         }
         let i = self.thread_at(at.slot);
         let slot = self.serve(&mut at.state, i, SlotCount(number));

@@ -117,7 +117,7 @@ module _ (out : List ℕ → Outcome) (ns bs : List ℕ) where
   ahead_leaf (suc d) e p h x = leaf_suc d e h x
 
   -- from an open list there is a leaf ahead
-  pub ahead_some : Lawful out → (d : ℕ) → 0 < d → d ≤ 64 → length ns ≡ 64 → 0 < length (ahead out ns bs d)
+  pub ahead_some : Lawful out → (d : ℕ) → 0 < d → d ≤ 64 → 64 ≤ length ns → 0 < length (ahead out ns bs d)
   unfolding ahead scan
   ahead_some laws zero p le len = absurd (let z : ⊥ = omega arith in z)
   ahead_some laws (suc d) p le len =

@@ -1,8 +1,9 @@
 pub mod Scans
 pub mod Rows
 pub mod Turns
-pub mod Aheads
 pub mod Points
+pub mod Levels
+pub mod Aheads
 pub mod Descents
 pub mod Tallying
 pub mod Visits

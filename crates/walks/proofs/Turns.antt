@@ -42,5 +42,5 @@ module _ (p : Levels) (ns bs : List ℕ) (d : ℕ) (en : ns ≡ p.numbers) (eb :
   pub turns_up : 0 < d → get_or ns (d - 1) 0 < get_or bs (d - 1) 0 → record { numbers = set ns (d - 1) (get_or ns (d - 1) 0 + 1); bounds = bs; depth = d } ≡ turned p
   turns_up h lt = ap (λ xs. record { numbers = xs; bounds = bs; depth = d }) (sym (raised_some ns d h)) ∙ at_last (unspent_here ns bs d h lt)
 
-  pub turns_out : d ≡ 0 → record { numbers = ns; bounds = bs; depth = d } ≡ turned p
-  turns_out z = ap (λ xs. record { numbers = xs; bounds = bs; depth = d }) (sym (raised_none ns d z)) ∙ at_last (unspent_none ns bs d z)
+  pub turns_out : d ≡ 0 → record { numbers = ns; bounds = bs; depth = 0 } ≡ turned p
+  turns_out z = ap (λ k. record { numbers = ns; bounds = bs; depth = k }) (sym z) ∙ ap (λ xs. record { numbers = xs; bounds = bs; depth = d }) (sym (raised_none ns d z)) ∙ at_last (unspent_none ns bs d z)

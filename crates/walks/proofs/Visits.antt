@@ -7,16 +7,16 @@ use Rattle.walks.specs.declared.outcome.Ending.{Ending}
 use Rattle.walks.specs.declared.outcome.Ending.TheVariants.{Failed, Cut, Full}
 use Rattle.walks.specs.declared.outcome.Outcome.{Outcome}
 use Rattle.walks.specs.declared.outcome.Outcome.TheVariants.{Open, Ended}
-use Rattle.walks.specs.declared.tally.Tally.{Tally}
 use Rattle.walks.specs.declared.walk.Walk.{Walk}
 use Rattle.walks.specs.Cursors.{Placed, Descended, after, ahead, ahead_in, ahead_of, leaf_of}
 use Rattle.walks.specs.Leaves.{leaves, from_start}
 use Rattle.walks.specs.Outcomes.{IsOpen}
-use Rattle.walks.specs.Paths.{Levels, levels, first, turned, left, left_depth, unspent, raised}
+use Rattle.walks.specs.Paths.{Levels, levels, points, first, turned, left, left_depth, unspent, raised}
 use Rattle.walks.specs.Runs.{Lawful}
-use Rattle.walks.specs.Tallies.{visited, nothing, noted, Counted}
+use Rattle.walks.specs.Tallies.{visited, Tallied, tallied, nothing, noted}
 use Rattle.walks.specs.Walks.{Tied, Visited, next_outcome}
 use Rattle.walks.proofs.Aheads.{ahead_none, ahead_first, ahead_leaf, ahead_some, ahead_turned}
+use Rattle.walks.proofs.Levels.{numbers_wide}
 use Rattle.walks.proofs.Points.{placed_set, placed_less}
 use Rattle.walks.proofs.Scans.{leaves_at}
 use Rattle.walks.proofs.Tallying.{counted_none, counted_one, noted_visited}
@@ -53,61 +53,61 @@ module _ {P : Type 0} (stands : P → List ℕ → Type 0) (points : List P) (ns
 
 module _ {P : Type 0} (out : List ℕ → Outcome) (stands : P → List ℕ → Type 0) where
   ahead_start : (o : Outcome) → ahead_in out (first o) ≡ from_start out o
-  ahead_start (Open b) = ahead_first out (replicate 64 0) (replicate 64 b) b refl refl
-  ahead_start (Ended e) = ahead_none out (replicate 64 0) (replicate 64 0)
+  ahead_start (Open b) = ahead_first out (replicate 65 0) (replicate 65 b) b refl refl
+  ahead_start (Ended e) = ahead_none out (replicate 65 0) (replicate 65 0)
 
   placed_start : (o : Outcome) (points : List P) → (IsOpen o → (x : P) → stands (get_or points 0 x) []) → Placed stands points (first o).numbers (first o).depth
   placed_start (Open b) points at j x lt = let z : j ≡ 0 = omega arith in rw z (at tt x)
   placed_start (Ended e) points at j x lt = absurd (let z : ⊥ = omega arith in z)
 
-  pub begun : (w : Walk P) (o : Outcome) → out [] ≡ o → levels w.cursor.path ≡ first o → w.tally ≡ nothing
-      → (IsOpen o → (x : P) → stands (get_or w.cursor.points 0 x) []) → Tied out stands w
+  pub begun : (w : Walk P) (o : Outcome) → out [] ≡ o → levels w.cursor ≡ first o → tallied w.tally ≡ nothing
+      → (IsOpen o → (x : P) → stands (get_or (points w.cursor) 0 x) []) → Tied out stands w
   begun w o e path tally at =
-      let PlacedBy : Levels → Type 0 = λ p. Placed stands w.cursor.points p.numbers p.depth in
-      let AheadBy : Tally → Type 0 = λ t. drop (visited t) (leaves out) ≡ ahead_of out w.cursor in
+      let PlacedBy : Levels → Type 0 = λ p. Placed stands (points w.cursor) p.numbers p.depth in
+      let none : visited w.tally ≡ 0 = ap (λ (s : Tallied). s.failed + s.cut + s.full) tally in
       record {
-        placed = subst PlacedBy (sym path) (placed_start o w.cursor.points at);
-        ahead = subst AheadBy (sym tally) (leaves_at out o e ∙ sym (ahead_start o) ∙ ap (ahead_in out) (sym path));
-        counted = subst (Counted out) (sym tally) (counted_none out);
+        placed = subst PlacedBy (sym path) (placed_start o (points w.cursor) at);
+        ahead = ap (λ n. drop n (leaves out)) none ∙ leaves_at out o e ∙ sym (ahead_start o) ∙ ap (ahead_in out) (sym path);
+        counted = counted_none out w.tally tally;
       }
 
   -- the walk w, gone down to the leaf at d, and past it to x
   pub visited_one : (w x : Walk P) (d : Cursor P) (e : Ending) → Tied out stands w → Descended out stands w.cursor d e
-      → x.cursor.points ≡ d.points → levels x.cursor.path ≡ turned (left e (levels d.path)) → x.tally ≡ noted w.tally e (levels d.path)
+      → points x.cursor ≡ points d → levels x.cursor ≡ turned (left e (levels d)) → tallied x.tally ≡ noted w.tally e (levels d)
       → Visited out stands w x (Some e)
-  visited_one w x d e t down points path tally =
-      let p = d.path in
+  visited_one w x d e t down kept path tally =
+      let p = levels d in
       let ns = p.numbers in
       let bs = p.bounds in
       let k = left_depth e p.depth in
       let xs = leaves out in
       let v = visited w.tally in
-      let few : p.depth ≤ 64 = p.few in
-      let wide : length ns ≡ 64 = p.numbers_wide in
+      let few : p.depth ≤ 64 = d.few in
+      let wide : length ns ≡ 65 = numbers_wide d in
       let less : k ≤ p.depth = left_le e p.depth in
       let rows : drop v xs ≡ leaf_of d ∷ after out ns bs k = t.ahead ∙ sym down.ahead ∙ ahead_leaf out ns bs p.depth e down.some (omega arith) down.ends in
       let nx = next_of xs (after out ns bs k) v (leaf_of d) rows in
-      let PlacedBy : Levels → Type 0 = λ q. Placed stands d.points q.numbers q.depth in
-      let PlacedOn : List P → Type 0 = λ ps. Placed stands ps x.cursor.path.numbers x.cursor.path.depth in
+      let PlacedBy : Levels → Type 0 = λ q. Placed stands (points d) q.numbers q.depth in
+      let PlacedOn : List P → Type 0 = λ ps. Placed stands ps (levels x.cursor).numbers x.cursor.depth in
       let moved : ahead_of out x.cursor ≡ after out ns bs k = ap (ahead_in out) path ∙ ahead_turned out ns bs k (omega arith) in
-      let u : visited x.tally ≡ v + 1 = ap visited tally ∙ noted_visited w.tally (levels p) e in
+      let u : visited x.tally ≡ v + 1 = noted_visited w.tally p e x.tally tally in
       record {
         tied = record {
-          placed = subst PlacedOn (sym points) (subst PlacedBy (sym path) (placed_turned stands d.points ns bs p.depth k less down.placed));
+          placed = subst PlacedOn (sym kept) (subst PlacedBy (sym path) (placed_turned stands (points d) ns bs p.depth k less down.placed));
           ahead = ap (λ n. drop n xs) u ∙ nx.1 ∙ sym moved;
-          counted = subst (Counted out) (sym tally) (counted_one out w.tally (levels p) e t.counted nx.0 (nx.2 []) down.ends);
+          counted = counted_one out w.tally x.tally p e tally t.counted nx.0 (nx.2 []) down.ends;
         };
         ending = sym (ap (next_outcome out) rows ∙ ap Some down.ends);
       }
 
-  pub none_left : (w : Walk P) → Tied out stands w → w.cursor.path.depth ≡ 0 → drop (visited w.tally) (leaves out) ≡ []
+  pub none_left : (w : Walk P) → Tied out stands w → w.cursor.depth ≡ 0 → drop (visited w.tally) (leaves out) ≡ []
   none_left w t z =
-      let p = w.cursor.path in
+      let p = levels w.cursor in
       t.ahead ∙ ap (ahead out p.numbers p.bounds) z ∙ ahead_none out p.numbers p.bounds
 
-  pub some_left : Lawful out → (w : Walk P) → Tied out stands w → 0 < w.cursor.path.depth → visited w.tally < length (leaves out)
+  pub some_left : Lawful out → (w : Walk P) → Tied out stands w → 0 < w.cursor.depth → visited w.tally < length (leaves out)
   some_left laws w t some =
-      let p = w.cursor.path in
-      let more : 0 < length (ahead_of out w.cursor) = ahead_some out p.numbers p.bounds laws p.depth some p.few p.numbers_wide in
+      let p = levels w.cursor in
+      let more : 0 < length (ahead_of out w.cursor) = ahead_some out p.numbers p.bounds laws p.depth some w.cursor.few (omega (arith, numbers_wide w.cursor)) in
       let e : length (leaves out) - visited w.tally ≡ length (ahead_of out w.cursor) = sym (length-drop (visited w.tally) (leaves out)) ∙ ap length t.ahead in
       omega (arith, more, e)

@@ -5,7 +5,7 @@ use Rattle.walks.specs.declared.outcome.Ending.{Ending}
 use Rattle.walks.specs.declared.outcome.Outcome.{Outcome}
 use Rattle.walks.specs.declared.outcome.Outcome.TheVariants.{Open, Ended}
 use Rattle.walks.specs.Leaves.{scan, level}
-use Rattle.walks.specs.Paths.{Levels, levels, list_of}
+use Rattle.walks.specs.Paths.{Levels, levels, points, list_of}
 
 -- The leaves after those that begin with the first d numbers: at each level those with a number after the one taken.
 unfoldable pub after : (out : List ℕ → Outcome) (numbers bounds : List ℕ) (d : ℕ) → List (List ℕ)
@@ -33,21 +33,21 @@ ahead_in out p = ahead out p.numbers p.bounds p.depth
 
 module _ {P : Type 0} where
   abbrev pub ahead_of : (List ℕ → Outcome) → Cursor P → List (List ℕ)
-  ahead_of out c = ahead_in out (levels c.path)
+  ahead_of out c = ahead_in out (levels c)
 
   abbrev pub leaf_of : Cursor P → List ℕ
-  leaf_of c = list_of (levels c.path)
+  leaf_of c = list_of (levels c)
 
   abbrev pub PlacedAt : (P → List ℕ → Type 0) → Cursor P → Type 0
-  PlacedAt stands c = Placed stands c.points c.path.numbers c.path.depth
+  PlacedAt stands c = Placed stands (points c) (levels c).numbers c.depth
 
   -- the cursor's list has come to o, and if it is open, the point behind its last number stands too
   abbrev pub Arrived : (List ℕ → Outcome) → (P → List ℕ → Type 0) → Cursor P → Outcome → Type 0
-  Arrived out stands c o = (out (leaf_of c) ≡ o) × Placed stands c.points c.path.numbers (reached o c.path.depth)
+  Arrived out stands c o = (out (leaf_of c) ≡ o) × Placed stands (points c) (levels c).numbers (reached o c.depth)
 
   -- from the cursor c down to the first leaf ahead of it, which ends so
   pub record Descended (out : List ℕ → Outcome) (stands : P → List ℕ → Type 0) (c d : Cursor P) (e : Ending) : Type 0 where
-    pub some : 0 < d.path.depth
+    pub some : 0 < d.depth
     pub placed : PlacedAt stands d
     pub ends : out (leaf_of d) ≡ Ended e
     pub ahead : ahead_of out d ≡ ahead_of out c

@@ -5,3 +5,4 @@ pub mod Paths
 pub mod Cursors
 pub mod Tallies
 pub mod Walks
+pub mod Counts

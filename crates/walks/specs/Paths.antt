@@ -1,20 +1,26 @@
--- How a path moves.
-use Rattle.std.specs.Prelude.{ℕ, zero, suc, ◌+◌, ◌-◌, cond, List, take, replicate, ◌==◌, nat_lt, slice_index, slice_set}
+-- The levels of a cursor, and how they move.
+use Rattle.std.specs.Prelude.{ℕ, zero, suc, ◌+◌, ◌-◌, cond, List, map, take, replicate, ◌==◌, nat_lt, slice_index, slice_set}
 use Rattle.walks.specs.declared.outcome.Ending.{Ending}
 use Rattle.walks.specs.declared.outcome.Ending.TheVariants.{Failed, Cut, Full}
 use Rattle.walks.specs.declared.outcome.Outcome.{Outcome}
 use Rattle.walks.specs.declared.outcome.Outcome.TheVariants.{Open, Ended}
-use Rattle.walks.specs.declared.path.Path.{Path}
+use Rattle.walks.specs.declared.cursor.Cursor.{Cursor}
+use Rattle.walks.specs.declared.cursor.Level.{Level}
 use Rattle.walks.specs.Outcomes.{bound}
 
--- what a path says
+-- the number and the bound of each level
 pub record Levels : Type 0 where
   pub numbers : List ℕ
   pub bounds : List ℕ
   pub depth : ℕ
 
-abbrev pub levels : Path → Levels
-levels p = record { numbers = p.numbers; bounds = p.bounds; depth = p.depth }
+module _ {P : Type 0} where
+  abbrev pub levels : Cursor P → Levels
+  levels c = record { numbers = map (λ (l : Level P). l.number) c.levels; bounds = map (λ (l : Level P). l.bound) c.levels; depth = c.depth }
+
+  -- and the point before it
+  abbrev pub points : Cursor P → List P
+  points c = map (λ (l : Level P). l.point) c.levels
 
 -- the list that the levels come to
 abbrev pub list_of : Levels → List ℕ
@@ -26,7 +32,7 @@ first_depth (Ended e) = 0
 
 -- the levels at the start, the outcome of the empty list being given
 abbrev pub first : Outcome → Levels
-first o = record { numbers = replicate 64 0; bounds = replicate 64 (bound o); depth = first_depth o }
+first o = record { numbers = replicate 65 0; bounds = replicate 65 (bound o); depth = first_depth o }
 
 -- one level more, at its first number
 abbrev pub pushed : Levels → ℕ → Levels

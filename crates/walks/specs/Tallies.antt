@@ -1,13 +1,14 @@
 -- What is counted of the leaves, and which of them was the latest to fail.
-use Rattle.std.specs.Prelude.{◌≡◌, ℕ, zero, suc, ◌+◌, ◌≤◌, Bool, true, false, cond, List, [], length, take, replicate, Some, None, count_by, Option, slice_index_or}
+use Rattle.std.specs.Prelude.{◌≡◌, ℕ, zero, suc, ◌+◌, ◌≤◌, Bool, true, false, cond, List, [], length, take, Some, None, count_by, Option, slice_index_or}
 use Rattle.walks.specs.declared.outcome.Ending.{Ending}
 use Rattle.walks.specs.declared.outcome.Ending.TheVariants.{Failed, Cut, Full}
 use Rattle.walks.specs.declared.outcome.Outcome.{Outcome}
 use Rattle.walks.specs.declared.outcome.Outcome.TheVariants.{Open, Ended}
 use Rattle.walks.specs.declared.found.Found.{Found}
+use Rattle.walks.specs.declared.tally.Latest.{Latest}
 use Rattle.walks.specs.declared.tally.Tally.{Tally}
 use Rattle.walks.specs.Leaves.{leaves}
-use Rattle.walks.specs.Paths.{Levels}
+use Rattle.walks.specs.Paths.{Levels, list_of}
 
 abbrev pub fails : Ending → Bool
 fails Failed = true
@@ -45,30 +46,45 @@ latest out rows (suc v) = cond (ends_so fails (out (slice_index_or rows v []))) 
 abbrev pub visited : Tally → ℕ
 visited t = t.failed + t.cut + t.full
 
-abbrev pub nothing : Tally
-nothing = record { failed = 0; cut = 0; full = 0; found = None; numbers = replicate 64 0 }
+-- what a tally says
+pub record Tallied : Type 0 where
+  pub failed : ℕ
+  pub cut : ℕ
+  pub full : ℕ
+  pub latest : Option Latest
+
+abbrev pub tallied : Tally → Tallied
+tallied t = record { failed = t.failed; cut = t.cut; full = t.full; latest = t.latest }
+
+abbrev pub nothing : Tallied
+nothing = record { failed = 0; cut = 0; full = 0; latest = None }
 
 -- one leaf more, which ends so
-abbrev pub noted : Tally → Ending → Levels → Tally
-noted t Failed p = record { failed = t.failed + 1; cut = t.cut; full = t.full; found = Some (record { length = p.depth; position = visited t + 1 }); numbers = p.numbers }
-noted t Cut p = record { failed = t.failed; cut = t.cut + 1; full = t.full; found = t.found; numbers = t.numbers }
-noted t Full p = record { failed = t.failed; cut = t.cut; full = t.full + 1; found = t.found; numbers = t.numbers }
+abbrev pub noted : Tally → Ending → Levels → Tallied
+noted t Failed p = record { failed = t.failed + 1; cut = t.cut; full = t.full; latest = Some (record { numbers = record { items = list_of p }; position = visited t + 1 }) }
+noted t Cut p = record { failed = t.failed; cut = t.cut + 1; full = t.full; latest = t.latest }
+noted t Full p = record { failed = t.failed; cut = t.cut; full = t.full + 1; latest = t.latest }
 
-abbrev pub list_found : Option Found → List ℕ → List ℕ
-list_found None numbers = []
-list_found (Some f) numbers = take f.length numbers
+abbrev pub list_found : Option Latest → List ℕ
+list_found None = []
+list_found (Some l) = l.numbers.items
 
 -- the numbers of the list that a tally found last, and none before one is
 abbrev pub latest_list : Tally → List ℕ
-latest_list t = list_found t.found t.numbers
+latest_list t = list_found t.latest
 
-abbrev pub as_failing : Option Found → List ℕ → Option Failing
-as_failing None numbers = None
-as_failing (Some f) numbers = Some (record { position = f.position; numbers = take f.length numbers })
+-- where it was found
+abbrev pub place : Option Latest → Option Found
+place None = None
+place (Some l) = Some (record { length = length l.numbers.items; position = l.position })
+
+abbrev pub as_failing : Option Latest → Option Failing
+as_failing None = None
+as_failing (Some l) = Some (record { position = l.position; numbers = l.numbers.items })
 
 -- what a tally found last
 abbrev pub found : Tally → Option Failing
-found t = as_failing t.found t.numbers
+found t = as_failing t.latest
 
 -- A tally of the first leaves.
 pub record Counted (out : List ℕ → Outcome) (t : Tally) : Type 0 where

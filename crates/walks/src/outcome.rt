@@ -3,7 +3,7 @@ ghost use Rattle.std.specs.Prelude.{◌≡◌};
 ghost use Rattle.walks.specs.Outcomes.{bound as bound_of};
 
 // How a run ends.
-#[derive(Clone, Copy)]
+#[derive(Clone, Copy, Debug, PartialEq, Eq)]
 pub enum Ending {
     Failed,
     Cut,
@@ -11,7 +11,7 @@ pub enum Ending {
 }
 
 // A run wants one more number, from 0 to the bound, or has ended.
-#[derive(Clone, Copy)]
+#[derive(Clone, Copy, Debug, PartialEq, Eq)]
 pub enum Outcome {
     Open(u8),
     Ended(Ending),

@@ -1,6 +1,4 @@
 // A walk over the leaves of a runner, in dictionary order.
-ghost use Rattle.std.specs.Prelude.{◌^◌, ◌<◌};
-ghost use Rattle.walks.specs.Tallies.{visited};
 
 use crate::cursor::Cursor;
 use crate::tally::Tally;
@@ -13,11 +11,10 @@ mod visits;
 pub struct Walk<P: Copy> {
     cursor: Cursor<P>,
     tally: Tally,
-    ghost fits: { visited tally < 2 ^ 32 },
 }
 
 // Whether leaves are left.
-#[derive(Clone, Copy)]
+#[derive(Clone, Copy, Debug, PartialEq, Eq)]
 pub enum Answer {
     Done,
     Spent,

@@ -3,10 +3,11 @@ ghost use Rattle.std.specs.Prelude.{◌≡◌};
 ghost use Rattle.jobs.specs.Keeps.{Keeps};
 ghost use Rattle.jobs.specs.Models.{Model, next, walk, survey, walk_reply, survey_reply};
 
-use crate::counts::{Counts, go_on};
 use crate::job::{Job, Stage};
 use kinds::Kind;
 use records::refusal::Refusal;
+use reports::walking::go_on;
+use walks::counts::Counts;
 
 impl<V: Kind> Job<V> {
     // Walk: the next `b` guess lists, or those left. A refusal leaves the job as it was.

@@ -1,6 +1,6 @@
 // Load.
-ghost use Rattle.std.specs.Prelude.{◌≡◌, ◌/◌, ◌^◌, ◌<◌, ◌≤◌, true, false, length, is_ok, IfOk, filter};
-ghost use Rattle.records.specs.Lines.{line, lines, sc, th};
+ghost use Rattle.std.specs.Prelude.{◌≡◌, ◌+◌, ◌^◌, ◌<◌, ◌≤◌, true, false, length, is_ok, IfOk, filter};
+ghost use Rattle.records.specs.Lines.{lines as lines_of, sc, th};
 ghost use Rattle.tables.specs.Program.{bare, with_record, behind, decoded};
 ghost use Rattle.questions.specs.Question.{question as asked};
 ghost use Rattle.tables.specs.Tables.{view, loaded};
@@ -13,9 +13,9 @@ use crate::text::ThreadText;
 use kinds::Kind;
 use questions::question::question;
 use records::body::{statement, word};
-use records::reader::{Record, record_at};
+use records::reader::{Line, Record, lines};
 use records::refusal::LoadError;
-use records::statement::Statement;
+use records::reserved::Reserved;
 use std::alloc::{AllocError, Global};
 
 impl Table {
@@ -23,14 +23,11 @@ impl Table {
     pub fn new(heap: Global) -> Result<Table, AllocError>
         ensures { IfOk result (λ t. view t ≡ bare 0) }
     {
-        let cells = Vec::with_capacity(heap, 16)?;
-        let texts = Vec::with_capacity(heap, 8)?;
-        let statements = Vec::with_capacity(heap, 409)?;
         Ok(Table {
             mutexes: 0,
-            cells,
-            texts,
-            statements,
+            cells: Reserved::new(heap)?,
+            texts: Reserved::new(heap)?,
+            statements: Reserved::new(heap)?,
         })
     }
 
@@ -43,31 +40,31 @@ impl Table {
         self.statements.clear();
     }
 
-    // Adds what record `i` says; the next text's statements start at `first`.
-    fn add(&mut self, first: usize, file: &[u8], i: usize) -> usize
-        requires there { i < length file.now / 10 }
+    // Adds what the record in line `i` says; the next text's statements start at `first`.
+    fn add(&mut self, first: usize, i: usize, line: &Line) -> usize
         requires low { first < 2 ^ 32 }
-        requires wide { sc (line file.now i) ≡ true → length (view self.old).cells < 16 }
-        requires deep { th (line file.now i) ≡ true → length (view self.old).texts < 8 }
+        requires wide { sc line.now ≡ true → length (view self.old).cells < 16 }
+        requires deep { th line.now ≡ true → length (view self.old).texts < 8 }
         requires long { length (view self.old).statements < 409 }
-        ensures after { view self.new ≡ with_record (view self.old) first (line file.now i) }
-        ensures next { result ≡ behind first (line file.now i) }
+        ensures after { view self.new ≡ with_record (view self.old) first line.now }
+        ensures next { result ≡ behind first line.now }
+        ensures near { result ≤ first + 255 }
     {
-        match record_at(file, i) {
+        match Record::read(i, line) {
             Some(Record::Sc(_, body)) => {
-                self.cells.push_reserved(word(body));
+                self.cells.push(word(body));
                 first
             }
             Some(Record::Th(_, body)) => {
-                self.texts.push_reserved(ThreadText {
+                self.texts.push(ThreadText {
                     locals: body[1],
                     first,
                     size: body[2],
                 });
-                first + body[2] as usize
+                first + usize::from(body[2])
             }
             Some(Record::St(_, body)) => {
-                self.statements.push_reserved(statement(body));
+                self.statements.push(statement(body));
                 first
             }
             Some(Record::Pg(_, _)) | None => first,
@@ -78,14 +75,14 @@ impl Table {
     fn fill(&mut self, file: &[u8])
         requires some { 10 ≤ length file.now }
         requires few { length file.now ≤ 4090 }
-        requires wide { length (filter sc (lines file.now)) ≤ 16 }
-        requires deep { length (filter th (lines file.now)) ≤ 8 }
+        requires wide { length (filter sc (lines_of file.now)) ≤ 16 }
+        requires deep { length (filter th (lines_of file.now)) ≤ 8 }
         ensures { view self.new ≡ decoded file.now }
     {
         self.clear(file[4]);
         let mut first = 0;
-        for i in 0..file.len() / 10 {
-            first = self.add(first, file, i);
+        for (i, line) in lines(file).iter().enumerate() {
+            first = self.add(first, i, line);
         }
     }
 
@@ -97,12 +94,8 @@ impl Table {
         ensures well { asked V.meaning file.now ≡ accepted → WellFormed V.meaning (view self.new) }
         ensures back { asked V.meaning file.now ≡ accepted → encoded V.meaning.byte (view self.new) ≡ file.now }
     {
-        match question::<V>(file) {
-            Err(e) => Err(e),
-            Ok(()) => {
-                self.fill(file);
-                Ok(())
-            }
-        }
+        question::<V>(file)?;
+        self.fill(file);
+        Ok(())
     }
 }

@@ -62,14 +62,6 @@ impl Table {
         ensures value { result ≡ due (view self.now) i.0 t.0 }
         ensures below { is_some result ≡ true → t.0 < 255 }
     {
-        let text = self.text(i);
-        if t.0 >= text.size {
-            return None;
-        }
-        let at = text.first.saturating_add(t.0 as usize);
-        if at >= self.statements.len() {
-            return None;
-        }
-        Some(self.statements[at])
+        self.statements_of(i).get(usize::from(t.0)).copied()
     }
 }

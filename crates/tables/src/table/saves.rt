@@ -1,6 +1,6 @@
 // Save.
-ghost use Rattle.std.specs.Prelude.{◌≡◌, ℕ, ◌+◌, ◌-◌, ◌≤◌, min, length};
-ghost use Rattle.tables.specs.Encoded.{cell_row, cell_bytes, own_bytes, own_thread_bytes, thread_bytes, header_row, encoded};
+ghost use Rattle.std.specs.Prelude.{◌≡◌, ℕ, ◌+◌, ◌≤◌, length, take, drop};
+ghost use Rattle.tables.specs.Encoded.{cell_bytes, own_bytes, own_thread_bytes, thread_bytes, header_row, encoded};
 ghost use Rattle.questions.specs.Question.{question as asked};
 ghost use Rattle.tables.specs.Tables.{view};
 ghost use Rattle.questions.specs.Answer.{accepted};
@@ -11,89 +11,66 @@ use crate::table::Table;
 use crate::text::ThreadText;
 use kinds::Kind;
 use records::refusal::Refusal;
-use records::row::{Mark, put, statement_row};
+use records::row::{Mark, put, room_for, statement_row};
+use records::statement::Statement;
 
-const PG: Mark = Mark(b'P', b'G');
-
-const SC: Mark = Mark(b'S', b'C');
-
-const TH: Mark = Mark(b'T', b'H');
-
-// The record of a cell.
-fn cell_record(i: u8, code: u32) -> [u8; 10]
-    ensures { result ≡ cell_row i code }
+// Of the statements that are left, those of a text, and those behind them.
+fn part(statements: &[Statement], t: ThreadText) -> (&[Statement], &[Statement])
+    ensures own { result.0.now ≡ take t.size statements.now }
+    ensures rest { result.1.now ≡ drop t.size statements.now }
 {
-    SC.row(i, 0, 0, 0, code)
+    statements.split_at(statements.len().min(usize::from(t.size)))
+}
+
+// Writes the records of some statements.
+fn save_statements(out: &mut [u8], start: usize, own: &[Statement]) -> usize
+    requires { start + length (own_bytes own.now) ≤ length out.old }
+    ensures after { out.new ≡ wrote out.old start (own_bytes own.now) }
+    ensures next { result ≡ start + length (own_bytes own.now) }
+{
+    let mut at = start;
+    for s in own {
+        at = put(out, at, statement_row(*s));
+    }
+    at
+}
+
+// Writes the record of thread `i` and those of its statements.
+fn save_text(out: &mut [u8], start: usize, i: u8, t: ThreadText, own: &[Statement]) -> usize
+    requires { start + length (own_thread_bytes i t own.now) ≤ length out.old }
+    ensures after { out.new ≡ wrote out.old start (own_thread_bytes i t own.now) }
+    ensures next { result ≡ start + length (own_thread_bytes i t own.now) }
+{
+    let at = put(out, start, Mark::Th.row(i, t.locals, t.size, 0, 0));
+    save_statements(out, at, own)
 }
 
 impl Table {
     // Writes the cells' records, which the sequential program's file has too.
     pub fn save_cells(&self, out: &mut [u8], start: usize) -> usize
-        requires { start + length (cell_bytes 0 self.now.cells.items) ≤ length out.old }
-        ensures after { out.new ≡ wrote out.old start (cell_bytes 0 self.now.cells.items) }
-        ensures next { result ≡ start + length (cell_bytes 0 self.now.cells.items) }
+        requires { start + length (cell_bytes 0 (view self.now).cells) ≤ length out.old }
+        ensures after { out.new ≡ wrote out.old start (cell_bytes 0 (view self.now).cells) }
+        ensures next { result ≡ start + length (cell_bytes 0 (view self.now).cells) }
     {
         let mut at = start;
-        for i in 0..self.cells.len() {
-            at = put(out, at, cell_record(i as u8, self.cells[i]));
+        for (i, code) in self.cells().iter().enumerate() {
+            at = put(out, at, Mark::Sc.row(i as u8, 0, 0, 0, *code));
         }
         at
-    }
-
-    // Writes the records of `n` statements from one on.
-    fn save_statements(&self, out: &mut [u8], start: usize, from: usize, n: usize) -> usize
-        requires there { from + n ≤ length self.now.statements.items }
-        requires room { start + length (own_bytes from n self.now.statements.items) ≤ length out.old }
-        ensures after { out.new ≡ wrote out.old start (own_bytes from n self.now.statements.items) }
-        ensures next { result ≡ start + length (own_bytes from n self.now.statements.items) }
-    {
-        let mut at = start;
-        for j in 0..n {
-            at = put(out, at, statement_row(self.statements[from + j]));
-        }
-        at
-    }
-
-    // Writes a thread's record and those of its `n` statements from one on.
-    fn save_text(
-        &self,
-        out: &mut [u8],
-        start: usize,
-        i: u8,
-        t: ThreadText,
-        from: usize,
-        n: usize,
-    ) -> usize
-        requires there { from + n ≤ length self.now.statements.items }
-        requires room { start + length (own_thread_bytes i t from n self.now.statements.items) ≤ length out.old }
-        ensures after { out.new ≡ wrote out.old start (own_thread_bytes i t from n self.now.statements.items) }
-        ensures next { result ≡ start + length (own_thread_bytes i t from n self.now.statements.items) }
-    {
-        let at = put(out, start, TH.row(i, t.locals, t.size, 0, 0));
-        self.save_statements(out, at, from, n)
-    }
-
-    // How many statements from one on are those of a text.
-    fn own(&self, t: ThreadText, from: usize) -> usize
-        requires { from ≤ length self.now.statements.items }
-        ensures { result ≡ min t.size (length self.now.statements.items - from) }
-    {
-        (t.size as usize).min(self.statements.len() - from)
     }
 
     // Writes the threads' records.
     fn save_threads(&self, out: &mut [u8], start: usize) -> usize
-        requires { start + length (thread_bytes 0 self.now.texts.items 0 self.now.statements.items) ≤ length out.old }
-        ensures after { out.new ≡ wrote out.old start (thread_bytes 0 self.now.texts.items 0 self.now.statements.items) }
-        ensures next { result ≡ start + length (thread_bytes 0 self.now.texts.items 0 self.now.statements.items) }
+        requires { start + length (thread_bytes 0 (view self.now).texts (view self.now).statements) ≤ length out.old }
+        ensures after { out.new ≡ wrote out.old start (thread_bytes 0 (view self.now).texts (view self.now).statements) }
+        ensures next { result ≡ start + length (thread_bytes 0 (view self.now).texts (view self.now).statements) }
     {
         let mut at = start;
-        let mut from = 0;
-        for i in 0..self.texts.len() {
-            let t = self.texts[i];
-            let n = self.own(t, from);
-            at = self.save_text(out, at, i as u8, t, from, n);
-            from += n;
+        let mut left = self.statements.as_slice();
+        for (i, t) in self.texts.as_slice().iter().enumerate() {
+            let (own, rest) = part(left, *t);
+            at = save_text(out, at, i as u8, *t, own);
+            left = rest;
         }
         at
     }
@@ -101,14 +78,14 @@ impl Table {
     // How many bytes the threads' records have.
     fn threads_len(&self) -> usize
         ensures few { result ≤ 4170 }
-        ensures value { result ≡ length (thread_bytes 0 self.now.texts.items 0 self.now.statements.items) }
+        ensures value { result ≡ length (thread_bytes 0 (view self.now).texts (view self.now).statements) }
     {
         let mut bytes = 0;
-        let mut from = 0;
-        for i in 0..self.texts.len() {
-            let n = self.own(self.texts[i], from);
-            bytes += 10 + 10 * n;
-            from += n;
+        let mut left = self.statements.as_slice();
+        for t in self.texts.as_slice() {
+            let (own, rest) = part(left, *t);
+            bytes += 10 + 10 * own.len();
+            left = rest;
         }
         bytes
     }
@@ -123,11 +100,11 @@ impl Table {
     fn header<V: Kind>(&self) -> [u8; 10]
         ensures { result ≡ header_row V.meaning.byte (view self.now) }
     {
-        PG.row(
-            V::kind_byte(),
+        Mark::Pg.row(
+            V::BYTE,
             self.cells.len() as u8,
             self.mutexes,
-            self.texts.len() as u8,
+            self.threads(),
             0,
         )
     }
@@ -149,9 +126,7 @@ impl Table {
         ensures again { WellFormed V.meaning (view self.now) → asked V.meaning (encoded V.meaning.byte (view self.now)) ≡ accepted }
     {
         let n = self.file_len();
-        if out.len() < n {
-            return Err(Refusal::BufferShort);
-        }
+        room_for(out, n)?;
         self.write::<V>(out);
         Ok(n)
     }

@@ -2,12 +2,11 @@
 ghost use Rattle.std.specs.Prelude.{◌≡◌, ◌+◌, ◌^◌, ◌<◌, if◌then◌else◌, nat_eq};
 ghost use Rattle.walks.specs.declared.walk.Answer.TheVariants.{Done, Spent};
 ghost use Rattle.walks.specs.Leaves.{leaves, Complete};
-ghost use Rattle.walks.specs.Tallies.{visited, nothing};
+ghost use Rattle.walks.specs.Tallies.{visited, tallied, nothing};
 ghost use Rattle.walks.specs.Walks.{Tied, Visited, Advanced, and_one};
 
 use crate::cursor::Cursor;
 use crate::outcome::Ending;
-use crate::path::Path;
 use crate::runner::Runner;
 use crate::tally::Tally;
 use crate::walk::{Answer, Walk};
@@ -16,15 +15,12 @@ impl<P: Copy> Walk<P> {
     // A walk that has visited nothing yet.
     pub fn begin<R: Runner<Point = P>>(r: &R) -> Walk<P>
         ensures tied { Tied (R.outcome r.now) (R.stands r.now) result }
-        ensures tally { result.tally ≡ nothing }
+        ensures tally { tallied result.tally ≡ nothing }
         ensures complete { R.ready r.now → Complete (R.outcome r.now) (leaves (R.outcome r.now)) }
     {
         let (outcome, point) = r.start();
         Walk {
-            cursor: Cursor {
-                points: [point; 65],
-                path: Path::first(outcome),
-            },
+            cursor: Cursor::first(outcome, point),
             tally: Tally::new(),
         }
     }
@@ -35,20 +31,20 @@ impl<P: Copy> Walk<P> {
         ensures count { visited self.new.tally ≡ and_one (visited self.old.tally) result }
         ensures leaf { R.ready r.now → Tied (R.outcome r.now) (R.stands r.now) self.old → Visited (R.outcome r.now) (R.stands r.now) self.old self.new result }
     {
-        if self.cursor.path.depth == 0 {
+        if self.cursor.depth == 0 {
             return None;
         }
         let ending = self.cursor.descend(r);
-        self.tally.note(ending, &self.cursor.path);
-        self.cursor.path.leave(ending);
+        self.tally.note(ending, &self.cursor);
+        self.cursor.leave(ending);
         Some(ending)
     }
 
     // What the walk answers where it stands: Done if no leaf is left.
     pub fn answer(&self) -> Answer
-        ensures { result ≡ (if nat_eq self.now.cursor.path.depth 0 then Done else Spent) }
+        ensures { result ≡ (if nat_eq self.now.cursor.depth 0 then Done else Spent) }
     {
-        if self.cursor.path.depth == 0 {
+        if self.cursor.depth == 0 {
             Answer::Done
         } else {
             Answer::Spent
@@ -62,7 +58,7 @@ impl<P: Copy> Walk<P> {
         ensures complete { R.ready r.now → Complete (R.outcome r.now) (leaves (R.outcome r.now)) }
     {
         for _ in 0..b {
-            if let None = self.visit(r) {
+            if self.visit(r).is_none() {
                 return Answer::Done;
             }
         }

@@ -6,4 +6,4 @@ use Rattle.questions.proofs.question.question.Given as goal
 
 abbrev pub invariant-loop-i : goal.invariant-loop-i
 invariant-loop-i g l =
-    Sound l.x × (follow g.V.Kind.meaning l.x l.i (drop l.i (lines l.file)) ≡ follow g.V.Kind.meaning start 0 (lines l.file))
+    Sound l.x × (follow g.V.Kind.meaning l.x l.i-counter (drop l.i-counter (lines l.file)) ≡ follow g.V.Kind.meaning start 0 (lines l.file))

@@ -2,6 +2,7 @@ use Rattle.std.proofs.Common.{◌++◌, take, ap, ◌∙◌}
 use Rattle.std.proofs.lemmas.List.{take_all}
 use Rattle.tables.specs.Tables.{view}
 use Rattle.sequences.specs.Code.{driver}
+use Rattle.sequences.proofs.Drivers.{driver_fits}
 use Rattle.sequences.proofs.Smalls.{well_translatable}
 use Rattle.sequences.proofs.sequence.Sequence.translate.Goals as goal
 
@@ -18,9 +19,9 @@ returns g c =
                 ∙ take_all 16 c.cells.result.now c.cells.ensures.few
                 ∙ c.cells.ensures.value;
             guide =
-                c.write_driver.ensures.value
+                c.write_driver.ensures.items
                 ∙ ap (λ xs. take 257 (xs ++ driver p c.args.rounds)) c.clear-2.ensures
-                ∙ take_all 257 (driver p c.args.rounds) (c.write_driver.ensures.fits few);
+                ∙ driver_fits p c.args.rounds few c.write_driver.ensures.threads;
             sections = c.write_sections.ensures small;
           };
       well = well_translatable g.V.Kind.meaning p;

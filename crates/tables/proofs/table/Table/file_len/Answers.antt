@@ -4,5 +4,4 @@ use Rattle.tables.proofs.Saves.{length_encoded}
 use Rattle.tables.proofs.table.Table.file_len.Goals as goal
 
 pub returns : goal.returns
-returns c byte =
-    omega (arith, length_encoded byte (view c.args.self.now) c.threads_len.result c.threads_len.ensures.value, c.args.self.now.cells.ok.0)
+returns c byte = omega (arith, length_encoded byte (view c.args.self.now) c.threads_len.result c.threads_len.ensures.value)

@@ -11,16 +11,16 @@ pub fill-requires : goal.fill-requires
 fill-requires g c =
     let k = g.V.Kind.meaning in
     let f = c.args.file.now in
-    let e = sym c.in-Ok.ensures in
+    let e = sym c.in_ok-question.ensures in
     let p = parts k f e in
     let q = held k f (λ j. omega (arith, c.type_inv.file j)) e in
     record { some = omega arith; few = p.most; wide = q.wide; deep = q.deep }
 
-pub returns-in-Ok : goal.returns-in-Ok
-returns-in-Ok g c =
+pub returns : goal.returns
+returns g c =
     let k = g.V.Kind.meaning in
     let f = c.args.file.now in
-    let e = c.in-Ok.ensures in
+    let e = c.in_ok-question.ensures in
     record {
       answer = e;
       after = c.fill.ensures ∙ ap (λ v. loaded v (decoded f) (view c.args.self.now)) e;

@@ -1,24 +1,20 @@
-use Rattle.std.proofs.Common.{◌+◌, length, vec_items, ap, arith, length-append}
+use Rattle.std.proofs.Common.{◌+◌, length, get_or, ap, arith, length-append, length-take, length-drop}
 use Rattle.tables.specs.Encoded.{own_thread_bytes, thread_bytes}
-use Rattle.tables.proofs.Saves.{threads_more, threads_all, length_text}
+use Rattle.tables.specs.Program.{no_text}
+use Rattle.tables.proofs.Saves.{threads_more, length_text}
 use Rattle.tables.proofs.table.Table.threads_len.Goals as goal
 
-pub loop-i-preserved : goal.loop-i-preserved
-loop-i-preserved c =
-    let ts = vec_items c.args.self.now.texts in
-    let ss = vec_items c.args.self.now.statements in
-    let i = c.loop-i.i in
-    let from = c.loop-i.from in
-    let n = c.own-n.result in
-    let t = c.index.result.now in
-    let p = threads_more ts ss i t from n (omega (arith, c.args.self.now.texts.ok.0)) c.index.ensures c.own-n.ensures in
-    let l = length_text i t ss from n (omega (arith, c.own-n.ensures, c.loop-i.invariant.2)) in
-    let m = length-append (own_thread_bytes i t from n ss) (thread_bytes (i + 1) ts (from + n) ss) in
-    (omega (arith, ap length p, c.loop-i.invariant.0), omega (arith, c.loop-i.invariant.1), omega (arith, c.own-n.ensures, c.loop-i.invariant.2))
-
-pub returns : goal.returns
-returns c =
-    record {
-      few = omega (arith, c.loop-i.invariant.1, c.loop-i.invariant.2, c.args.self.now.texts.ok.0, c.args.self.now.statements.ok.0, c.args.self.now.texts_few, c.args.self.now.statements_few);
-      value = omega (arith, c.loop-i.invariant.0, ap length (threads_all (vec_items c.args.self.now.texts) (vec_items c.args.self.now.statements) c.loop-i.i c.loop-i.from (omega (arith, c.args.self.now.texts.ok.0))));
-    }
+pub loop-t-preserved : goal.loop-t-preserved
+loop-t-preserved c =
+    let ts = c.as_slice-t-items.result.now in
+    let i = c.loop-t.t-index in
+    let left = c.loop-t.left.now in
+    let own = c.part.result.0.now in
+    let rest = c.part.result.1.now in
+    let p = threads_more ts left own rest i no_text (omega arith) c.part.ensures.own c.part.ensures.rest in
+    let t = get_or ts i no_text in
+    let l = length_text i t own in
+    let m = length-append (own_thread_bytes i t own) (thread_bytes (i + 1) ts rest) in
+    let a = ap length c.part.ensures.own in
+    let b = ap length c.part.ensures.rest in
+    (omega (arith, ap length p, c.loop-t.invariant.0), omega (arith, length-take t.size left, length-drop t.size left, c.loop-t.invariant.1))

@@ -9,7 +9,7 @@ save_cells-next-requires g c =
     let k = g.V.Kind.meaning.byte in
     let p = view c.args.self.now in
     let cs = cell_bytes 0 p.cells in
-    let ts = thread_bytes 0 p.texts 0 p.statements in
+    let ts = thread_bytes 0 p.texts p.statements in
     omega (arith, ap length (encoded_parts k p), length-append (header_row k p) (cs ++ ts), length-append cs ts, c.requires, c.put-at.ensures.next, c.put-at.auto.out)
 
 pub save_threads-end-requires : goal.save_threads-end-requires
@@ -17,7 +17,7 @@ save_threads-end-requires g c =
     let k = g.V.Kind.meaning.byte in
     let p = view c.args.self.now in
     let cs = cell_bytes 0 p.cells in
-    let ts = thread_bytes 0 p.texts 0 p.statements in
+    let ts = thread_bytes 0 p.texts p.statements in
     omega (arith, ap length (encoded_parts k p), length-append (header_row k p) (cs ++ ts), length-append cs ts, c.requires, c.put-at.ensures.next, c.save_cells-next.ensures.next, c.put-at.auto.out, c.save_cells-next.auto.out)
 
 pub returns : goal.returns

@@ -1,5 +1,6 @@
-use Rattle.std.proofs.Common.{arith, rules}
-use Rattle.walks.proofs.Advances.{runs_out, answers}
+use Rattle.std.proofs.Common.{arith}
+use Rattle.walks.specs.Tallies.{visited}
+use Rattle.walks.proofs.Advances.{one_more, runs_out, answers}
 use Rattle.walks.proofs.Rows.{complete}
 use Rattle.walks.proofs.walk.Walk.advance.Goals as goal
 
@@ -7,20 +8,20 @@ pub loop-init : goal.loop-init
 loop-init g c = (omega arith, λ ready tied. tied)
 
 pub visit-requires : goal.visit-requires
-visit-requires g c = (search rules, omega (arith, c.loop.invariant.0, c.requires, c.loop-test.true))
+visit-requires g c = omega (arith, c.loop.invariant.0, c.requires, c.loop-test.true)
 
 pub loop-preserved : goal.loop-preserved
 loop-preserved g c =
-    let told = c.in_default.ensures in
-    (omega (arith, told.count, c.loop.invariant.0), λ ready tied. (told.leaf ready (c.loop.invariant.1 ready tied)).tied)
+    let told = c.visit.ensures in
+    (omega (arith, told.count, one_more (visited c.loop.self.tally) c.visit.result c.if-is_none.ensures, c.loop.invariant.0), λ ready tied. (told.leaf ready (c.loop.invariant.1 ready tied)).tied)
 
-pub returns-in-None : goal.returns-in-None
-returns-in-None g c =
+pub returns-then-is_none : goal.returns-then-is_none
+returns-then-is_none g c =
     let m = g.R.Runner in
     let r = c.args.r.now in
-    let told = c.in-None.ensures in
+    let told = c.visit.ensures in
     record {
-      leaves = λ ready tied. runs_out (m.outcome r) (m.stands r) c.args.self.now c.args.b c.loop.self c.visit.new.self c.loop.counter c.loop.invariant.0 c.loop-test.true told.count (told.leaf ready (c.loop.invariant.1 ready tied));
+      leaves = λ ready tied. runs_out (m.outcome r) (m.stands r) c.args.self.now c.args.b c.loop.self c.visit.new.self c.loop.counter c.visit.result c.if-is_none.ensures c.loop.invariant.0 c.loop-test.true told.count (told.leaf ready (c.loop.invariant.1 ready tied));
       complete = λ ready. complete (m.outcome r) (g.met.R.Runner.lawful r ready);
     }
 

@@ -1,6 +1,5 @@
-use Rattle.std.proofs.Common.{sym, refl, ap, ◌∙◌}
+use Rattle.std.proofs.Common.{sym, refl, ap}
 use Rattle.walks.specs.Paths.{levels}
-use Rattle.walks.specs.Tallies.{visited}
 use Rattle.walks.specs.Walks.{next_outcome}
 use Rattle.walks.proofs.Tallying.{noted_visited}
 use Rattle.walks.proofs.Visits.{visited_one, none_left}
@@ -19,6 +18,6 @@ returns g c =
     let d = c.descend-ending.new.self in
     let e = c.descend-ending.result in
     record {
-      count = ap visited c.note.ensures ∙ noted_visited c.args.self.now.tally (levels d.path) e;
-      leaf = λ ready tied. visited_one (m.outcome r) (m.stands r) c.args.self.now _ d e tied (c.descend-ending.ensures ready tied.placed) refl c.leave.ensures c.note.ensures;
+      count = noted_visited c.args.self.now.tally (levels d) e c.note.new.self c.note.ensures;
+      leaf = λ ready tied. visited_one (m.outcome r) (m.stands r) c.args.self.now _ d e tied (c.descend-ending.ensures ready tied.placed) c.leave.ensures.points c.leave.ensures.path c.note.ensures;
     }
