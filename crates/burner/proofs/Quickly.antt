@@ -14,17 +14,19 @@ use Rattle.records.specs.declared.refusal.LoadError.{LoadError}
 use Rattle.records.specs.declared.refusal.Refusal.{Refusal}
 use Rattle.records.specs.declared.refusal.Refusal.TheVariants.{Rounds}
 use Rattle.tables.specs.Program.{decoded}
-use Rattle.burner.specs.Quicks.{after_load, after_rounds, counts_of}
+use Rattle.hosts.specs.declared.problem.Problem.{Problem}
+use Rattle.hosts.specs.declared.problem.Problem.TheVariants.{File, Call}
+use Rattle.burner.specs.Quicks.{after_load, after_rounds, after_walk, counts_of}
 
 module _ (k : Meaning) (f : List ℕ) (r b : ℕ) where
-  abbrev walked : Result Counts Refusal
-  walked = walk_answer (guessed k (decoded f) r) 0 b
+  abbrev walked : Result Counts Problem
+  walked = after_walk (walk_answer (guessed k (decoded f) r) 0 b)
 
-  pub load_refused : (e : LoadError) → ◌≡◌ {A = Answer} (Err e) (question k f) → Err e.refusal ≡ counts_of k f r b
+  pub load_refused : (e : LoadError) → ◌≡◌ {A = Answer} (Err e) (question k f) → Err (File e) ≡ counts_of k f r b
   unfolding counts_of
   load_refused e q = ap (λ a. after_load a (after_rounds (yes_or (rounds_no r)) walked)) q
 
-  pub rounds_refused : (e : Refusal) → ◌≡◌ {A = Answer} accepted (question k f) → Err e ≡ translate_answer (loaded (decoded f)) r → Err e ≡ counts_of k f r b
+  pub rounds_refused : (e : Refusal) → ◌≡◌ {A = Answer} accepted (question k f) → Err e ≡ translate_answer (loaded (decoded f)) r → Err (Call e) ≡ counts_of k f r b
   unfolding counts_of
   rounds_refused e q a = ap (λ x. after_rounds x walked) a ∙ ap (λ x. after_load x (after_rounds (yes_or (rounds_no r)) walked)) q
 
@@ -32,11 +34,11 @@ module _ (k : Meaning) (f : List ℕ) (r b : ℕ) where
   few_is true e = refl
   few_is false e = absurd (let z : ◌≡◌ {A = ℕ} 0 1 = cc in omega arith)
 
-  pub walk_told : (a : Result Counts Refusal) → ◌≡◌ {A = Answer} accepted (question k f) → ◌≡◌ {A = Result (Unit {0}) Refusal} (Ok tt) (translate_answer (loaded (decoded f)) r) → a ≡ walk_reply k (translate_next (loaded (decoded f)) r) b → a ≡ counts_of k f r b
+  pub walk_told : (a : Result Counts Refusal) → ◌≡◌ {A = Answer} accepted (question k f) → ◌≡◌ {A = Result (Unit {0}) Refusal} (Ok tt) (translate_answer (loaded (decoded f)) r) → a ≡ walk_reply k (translate_next (loaded (decoded f)) r) b → after_walk a ≡ counts_of k f r b
   unfolding counts_of
   walk_told a q t e =
-      e
-      ∙ ap (λ c. walk_reply k (cond c (translated (decoded f) r 0 0) (loaded (decoded f))) b) (few_is (few r) t)
+      ap after_walk e
+      ∙ ap (λ c. after_walk (walk_reply k (cond c (translated (decoded f) r 0 0) (loaded (decoded f))) b)) (few_is (few r) t)
       ∙ ap (λ x. after_rounds x walked) t
       ∙ ap (λ x. after_load x (after_rounds (yes_or (rounds_no r)) walked)) q
 

@@ -1,5 +1,5 @@
 -- What Play, Drive and Found tell of a translated job.
-use Rattle.std.proofs.Common.{◌≡◌, ℕ, List, length, Some, None, Option, Result, sym, ap, ◌∙◌, subst, ap₂}
+use Rattle.std.proofs.Common.{◌≡◌, ℕ, List, length, Some, None, Option, Result, sym, refl, ap, ◌∙◌, subst, ap₂}
 use Rattle.std.proofs.lemmas.Option.{none-some}
 use Rattle.kinds.specs.declared.kind.Kind.{Ghosts}
 use Rattle.agreement.specs.Agreement.{play_told}

@@ -1,11 +1,10 @@
 -- What a translated job's machines come to, and how Walk and Survey go on.
-use Rattle.std.proofs.Common.{◌≡◌, ℕ, ◌⊎◌, Err, Result, sym, refl, ap, ◌∙◌, subst, ap₂, inl, inr, arith}
+use Rattle.std.proofs.Common.{◌≡◌, ℕ, ◌⊎◌, Result, sym, refl, ap, ◌∙◌, subst, ap₂, inl, inr, arith}
 use Rattle.kinds.specs.declared.kind.Kind.{Ghosts}
 use mathlib.Core.Path.{fun_ext}
 use Rattle.agreement.specs.Agreement.{scheduled, guessed}
 use Rattle.kinds.specs.Meaning.{Meaning}
 use Rattle.records.specs.declared.refusal.Refusal.{Refusal}
-use Rattle.records.specs.declared.refusal.Refusal.TheVariants.{NotTranslated}
 use Rattle.guesses.specs.Points as guesses
 use Rattle.sequences.specs.declared.point.SeqPoint.{SeqPoint}
 use Rattle.sequences.specs.Drives.{Driven}
@@ -22,7 +21,7 @@ use Rattle.jobs.specs.declared.job.Stage.{Stage}
 use Rattle.jobs.specs.declared.job.Stage.TheVariants.{Empty, Loaded, Translated}
 use Rattle.reports.specs.Counts.{walk_answer, walk_next, Walked}
 use Rattle.jobs.specs.Keeps.{Keeps, HasTranslation, threads_outcome, sequential_outcome}
-use Rattle.jobs.specs.Models.{Model, empty, loaded, translated, walk_reply, survey_reply, walked, surveyed}
+use Rattle.jobs.specs.Models.{Model, empty, loaded, translated}
 
 -- two stages are never the same
 pub apart : {X : Type 0} (s t : Stage) → ((s ≡ Empty) × (t ≡ Loaded)) ⊎ (((s ≡ Empty) × (t ≡ Translated)) ⊎ ((s ≡ Loaded) × (t ≡ Translated))) → s ≡ t → X
@@ -31,11 +30,6 @@ apart s t (inr (inl h)) e = absurd (let z : Empty ≡ Translated = sym h.0 ∙ e
 apart s t (inr (inr h)) e = absurd (let z : Loaded ≡ Translated = sym h.0 ∙ e ∙ h.1 in (let w : ◌≡◌ {A = ℕ} 0 1 = cc in omega arith))
 
 module _ {V : Type 0} {G : Ghosts V} (k : Meaning) (j : Job V G) where
-  -- a job whose stage is not Translated has no translation
-  pub untranslated : {X : Type 0} (p : Program) (r v u : ℕ) → (j.stage ≡ Empty) ⊎ (j.stage ≡ Loaded) → HasTranslation k j p r v u → X
-  untranslated p r v u (inl e) h = apart j.stage Translated (inr (inl (e, refl))) h.stage
-  untranslated p r v u (inr e) h = apart j.stage Translated (inr (inr (e, refl))) h.stage
-
   -- of a job whose stage is Translated: the model has a translation
   module _ (P : Model → Type 0) (stage : j.stage ≡ Translated) (has : (p : Program) (r v u : ℕ) → HasTranslation k j p r v u → P (translated p r v u)) where
     pub with_translation : (m : Model) → Keeps k j m → P m
@@ -55,17 +49,6 @@ module _ {V : Type 0} {G : Ghosts V} (k : Meaning) (j : Job V G) where
 
     pub threads_ready : threads.Ready k j.threads
     threads_ready = (subst (WellFormed k) (sym h.program) h.exists, omega (arith, h.rounds, h.some))
-
-  -- Walk and Survey where there is no translation
-  pub walk_refused : (b : ℕ) → (j.stage ≡ Empty) ⊎ (j.stage ≡ Loaded) → (m : Model) → Keeps k j m → (Err NotTranslated ≡ walk_reply k m b) × Keeps k j (walked k m b)
-  walk_refused b s empty h = (refl, h)
-  walk_refused b s (loaded p) h = (refl, h)
-  walk_refused b s (translated p r v u) h = untranslated p r v u s h
-
-  pub survey_refused : (b : ℕ) → (j.stage ≡ Empty) ⊎ (j.stage ≡ Loaded) → (m : Model) → Keeps k j m → (Err NotTranslated ≡ survey_reply k m b) × Keeps k j (surveyed k m b)
-  survey_refused b s empty h = (refl, h)
-  survey_refused b s (loaded p) h = (refl, h)
-  survey_refused b s (translated p r v u) h = untranslated p r v u s h
 
   abbrev with_walk : Walk SeqPoint → Job V G
   with_walk x = record { stage = j.stage; threads = j.threads; sequential = j.sequential; walk = x; survey = j.survey }

@@ -138,6 +138,12 @@ drive_reply k empty numbers counts cells = refused NotTranslated counts cells
 drive_reply k (loaded p) numbers counts cells = refused NotTranslated counts cells
 drive_reply k (translated p r v u) numbers counts cells = lent (refusal numbers counts cells (length p.cells)) (drive_told k p r numbers) counts cells
 
+-- how many cells the program has
+abbrev pub cell_count : Model → ℕ
+cell_count empty = 0
+cell_count (loaded p) = length p.cells
+cell_count (translated p r v u) = length p.cells
+
 -- the codes that a run leaves in the cells are lawful
 abbrev pub LawfulPlay : Meaning → Model → List ℕ → Type 0
 LawfulPlay k empty numbers = Unit {0}

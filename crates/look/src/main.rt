@@ -11,9 +11,10 @@ use crate::failures::{Failures, visit_some};
 use crate::request::{Request, Task, USAGE};
 use crate::show::{RunText, SurveyText, TableText};
 use crate::sight::run_of;
-use crate::text::{ProblemText, RefusalText};
 use anyhow::anyhow;
+use hosts::known::KnownKind;
 use kinds::{Kind, Truth, Words};
+use reports::walking::{BUDGET_LIMIT, LEAF_LIMIT};
 use std::process::ExitCode;
 use std::{env, fs};
 use surveys::setup::machine_of;
@@ -25,11 +26,6 @@ mod request;
 mod show;
 mod sight;
 mod text;
-
-// The most schedules that a walk visits, and how many it visits between two lines of progress.
-const LIMIT: u32 = 16_777_216;
-
-const CHUNK: u32 = 65_536;
 
 // Plays one schedule.
 fn play<'a, V: Kind>(
@@ -50,14 +46,13 @@ fn play<'a, V: Kind>(
             Ok(())
         }
         Err(refusal) => {
-            let why = RefusalText(refusal);
-            eprintln!(rt; "look: {why}")?;
+            eprintln!(rt; "look: {refusal}")?;
             Err(anyhow!("refused"))
         }
     }
 }
 
-// Visits all schedules, or as many as a walk may.
+// Visits all schedules, or as many as a walk may, and says how far it is after as many as a call may visit.
 fn survey<V: Kind>(rt: &HostRuntime, machine: &Machine<V>, most: usize) -> anyhow::Result<()>
     ensures { Ready V.meaning machine.now → Complete (outcomes V.meaning machine.now) (leaves (outcomes V.meaning machine.now)) }
 {
@@ -65,11 +60,11 @@ fn survey<V: Kind>(rt: &HostRuntime, machine: &Machine<V>, most: usize) -> anyho
     let mut walk = Walk::begin(machine);
     let mut failures = Failures::new(heap, most);
     let mut done = false;
-    for _ in 0..LIMIT / CHUNK {
-        if walk.visited() > LIMIT - CHUNK {
+    for _ in 0..LEAF_LIMIT / BUDGET_LIMIT {
+        if walk.visited() > LEAF_LIMIT - BUDGET_LIMIT {
             break;
         }
-        match visit_some(heap, &mut walk, machine, CHUNK, &mut failures)? {
+        match visit_some(heap, &mut walk, machine, BUDGET_LIMIT, &mut failures)? {
             Answer::Done => {
                 done = true;
                 break;
@@ -103,8 +98,7 @@ fn look<V: Kind>(
     let machine = match machine_of::<V>(rt.alloc(), file, request.rounds) {
         Ok(machine) => machine,
         Err(problem) => {
-            let why = ProblemText(problem);
-            eprintln!(rt; "look: {why}")?;
+            eprintln!(rt; "look: {problem}")?;
             return Err(anyhow!("refused"));
         }
     };
@@ -134,10 +128,9 @@ fn main(rt: HostRuntime) -> anyhow::Result<ExitCode> {
             return Ok(ExitCode::FAILURE);
         }
     };
-    let shown = if file.get(2).copied() == Some(Truth::BYTE) {
-        look::<Truth>(&rt, "truth values", file.as_slice(), &request)
-    } else {
-        look::<Words>(&rt, "words", file.as_slice(), &request)
+    let shown = match KnownKind::of(file.as_slice()) {
+        KnownKind::Words => look::<Words>(&rt, "words", file.as_slice(), &request),
+        KnownKind::Truth => look::<Truth>(&rt, "truth values", file.as_slice(), &request),
     };
     match shown {
         Ok(()) => Ok(ExitCode::SUCCESS),

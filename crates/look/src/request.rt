@@ -1,7 +1,8 @@
 // What look is asked for on its command line.
-ghost use Rattle.std.specs.Prelude.{◌≡◌, ◌-◌, length, IfSome, IfOk, vec_len};
+ghost use Rattle.std.specs.Prelude.{◌≡◌, ◌-◌, length, IfSome, IfOk};
 ghost use Rattle.look.specs.Requests.{Named};
 
+use hosts::numbers::numbers_of;
 use std::alloc::{AllocError, Global};
 
 pub const USAGE: &str =
@@ -24,36 +25,14 @@ pub struct Request {
     pub task: Task,
 }
 
-// The numbers of a schedule, or none where a word is no number.
-fn numbers_of(heap: Global, words: &[String]) -> Result<Option<Vec<u8>>, AllocError>
-    ensures { IfOk result (λ o. IfSome o (λ v. vec_len v ≡ length words.now)) }
-{
-    let mut numbers = Vec::new(heap);
-    for word in words {
-        let Ok(n) = word.as_str().parse::<u8>() else {
-            return Ok(None);
-        };
-        numbers.push(n)?;
-    }
-    Ok(Some(numbers))
-}
-
 // The task that the words behind FILE and K name.
 fn task_of(heap: Global, words: &[String]) -> Result<Option<Task>, AllocError>
     ensures { IfOk result (λ o. IfSome o (Named (length words.now))) }
 {
-    if words.len() == 0 {
-        return Ok(Some(Task::Survey(SHOWN)));
-    }
-    if words.len() == 2 && words[0].as_str() == "--failures" {
-        return match words[1].as_str().parse::<usize>() {
-            Ok(n) => Ok(Some(Task::Survey(n))),
-            Err(_) => Ok(None),
-        };
-    }
-    match numbers_of(heap, words)? {
-        Some(numbers) => Ok(Some(Task::Play(numbers))),
-        None => Ok(None),
+    match words {
+        [] => Ok(Some(Task::Survey(SHOWN))),
+        [flag, n] if flag.as_str() == "--failures" => Ok(n.as_str().parse().ok().map(Task::Survey)),
+        _ => Ok(numbers_of(heap, words)?.map(Task::Play)),
     }
 }
 
@@ -62,16 +41,16 @@ impl Request {
     pub fn from_words(heap: Global, words: &[String]) -> Result<Option<Request>, AllocError>
         ensures { IfOk result (λ o. IfSome o (λ q. Named (length words.now - 3) q.task)) }
     {
-        if words.len() < 3 {
-            return Ok(None);
-        }
-        let Ok(rounds) = words[2].as_str().parse::<u32>() else {
+        let [_, file, rounds, rest @ ..] = words else {
             return Ok(None);
         };
-        let Some(task) = task_of(heap, &words[3..])? else {
+        let Ok(rounds) = rounds.as_str().parse::<u32>() else {
             return Ok(None);
         };
-        let file = words[1].clone()?;
+        let Some(task) = task_of(heap, rest)? else {
+            return Ok(None);
+        };
+        let file = file.clone()?;
         Ok(Some(Request { file, rounds, task }))
     }
 }

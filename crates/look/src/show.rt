@@ -1,9 +1,9 @@
 // How a table and a run are shown.
 use crate::failures::Failures;
 use crate::sight::Run;
-use crate::text::{OutcomeText, StatementText};
+use crate::text::OutcomeText;
 use kinds::Kind;
-use records::statement::{Label, Thread};
+use records::statement::Thread;
 use std::fmt;
 use tables::table::Table;
 use threads::machine::Machine;
@@ -20,16 +20,14 @@ struct ThreadText<'a> {
 
 impl fmt::Display for ThreadText<'_> {
     fn fmt<W: fmt::Write>(&self, f: &mut fmt::Formatter<W>) -> fmt::Result {
-        let i = self.thread.0;
         let text = self.table.text(self.thread);
-        let locals = text.locals;
-        let size = text.size;
-        writeln!(f, "thread {i}: {size} statements, {locals} local cells")?;
-        for t in 0..size {
-            if let Some(s) = self.table.statement(self.thread, Label(t)) {
-                let s = StatementText(s);
-                writeln!(f, "  {t:>2}  {s}")?;
-            }
+        writeln!(
+            f,
+            "thread {}: {} statements, {} local cells",
+            self.thread.0, text.size, text.locals
+        )?;
+        for (t, s) in self.table.statements_of(self.thread).iter().enumerate() {
+            writeln!(f, "  {t:>2}  {s}")?;
         }
         Ok(())
     }
@@ -44,23 +42,23 @@ pub struct TableText<'a> {
 
 impl fmt::Display for TableText<'_> {
     fn fmt<W: fmt::Write>(&self, f: &mut fmt::Formatter<W>) -> fmt::Result {
-        let kind = self.kind;
-        let threads = self.table.threads();
-        let mutexes = self.table.mutexes();
-        let cells = self.table.cells().len();
+        let table = self.table;
+        let cells = table.cells();
         writeln!(
             f,
-            "program over {kind}: {threads} threads, {cells} shared cells, {mutexes} mutexes"
+            "program over {}: {} threads, {} shared cells, {} mutexes",
+            self.kind,
+            table.threads(),
+            cells.len(),
+            table.mutexes()
         )?;
-        for (i, c) in self.table.cells().iter().enumerate() {
+        for (i, c) in cells.iter().enumerate() {
             writeln!(f, "shared cell s{i} starts at {c}")?;
         }
-        for i in 0..threads {
-            let thread = ThreadText {
-                table: self.table,
-                thread: Thread(i),
-            };
-            write!(f, "{thread}")?;
+        // a table says of a thread what its number asks for, and lends no list of threads
+        for i in 0..table.threads() {
+            let thread = Thread(i);
+            write!(f, "{}", ThreadText { table, thread })?;
         }
         Ok(())
     }
@@ -79,25 +77,21 @@ impl<V: Kind> fmt::Display for SlotsText<'_, V> {
         let mut at = self.machine.first();
         let mut outcome = self.machine.standing(&at);
         for n in self.numbers {
-            if let Outcome::Ended(_) = outcome {
+            if matches!(outcome, Outcome::Ended(_)) {
                 return Ok(());
             }
             let round = (at.slot / threads).saturating_add(1);
             let i = at.slot % threads;
             let turn = self.machine.turn(&mut at, *n);
-            let count = turn.count.0;
             write!(
                 f,
-                "  round {round}, thread {i}: number {n}, {count} statements carried out"
+                "  round {round}, thread {i}: number {n}, {} statements carried out",
+                turn.count
             )?;
-            if let Outcome::Ended(Ending::Failed) = turn.outcome
-                && i < 8
-            {
+            if turn.outcome == Outcome::Ended(Ending::Failed) {
                 let label = at.state.threads.label(Thread(i));
                 if let Some(s) = self.machine.table.statement(Thread(i), label) {
-                    let t = label.0;
-                    let s = StatementText(s);
-                    write!(f, "; statement {t} failed: {s}")?;
+                    write!(f, "; statement {label} failed: {s}")?;
                 }
             }
             writeln!(f, "")?;
@@ -117,32 +111,30 @@ pub struct RunText<'a, V: Kind> {
 
 impl<V: Kind> fmt::Display for RunText<'_, V> {
     fn fmt<W: fmt::Write>(&self, f: &mut fmt::Formatter<W>) -> fmt::Result {
-        let rounds = self.machine.rounds;
-        let given = self.numbers.len();
-        let slots = SlotsText {
-            machine: self.machine,
-            numbers: self.numbers,
-        };
-        writeln!(f, "schedule of {given} numbers over {rounds} rounds")?;
-        write!(f, "{slots}")?;
-        let outcome = OutcomeText(self.run.report.outcome);
+        let (machine, numbers) = (self.machine, self.numbers);
+        let report = self.run.report;
         let read = self.run.report.read;
-        let carried = self.run.report.carried;
-        writeln!(f, "outcome: {outcome}")?;
-        writeln!(f, "numbers read: {read}; statements carried out: {carried}")?;
+        writeln!(
+            f,
+            "schedule of {} numbers over {} rounds",
+            numbers.len(),
+            machine.rounds
+        )?;
+        write!(f, "{}", SlotsText { machine, numbers })?;
+        writeln!(f, "outcome: {}", OutcomeText(report.outcome))?;
+        writeln!(
+            f,
+            "numbers read: {}; statements carried out: {}",
+            report.read, report.carried
+        )?;
         write!(f, "slot counts:")?;
         for c in self.run.counts.iter().take(read as usize) {
             write!(f, " {c}")?;
         }
         writeln!(f, "")?;
         write!(f, "cells:")?;
-        for (i, c) in self
-            .run
-            .cells
-            .iter()
-            .take(self.machine.table.cells().len())
-            .enumerate()
-        {
+        let own = machine.table.cells().len();
+        for (i, c) in self.run.cells.iter().take(own).enumerate() {
             write!(f, " s{i}={c}")?;
         }
         writeln!(f, "")
@@ -160,11 +152,9 @@ pub struct SurveyText<'a, V: Kind> {
 
 impl<V: Kind> fmt::Display for SurveyText<'_, V> {
     fn fmt<W: fmt::Write>(&self, f: &mut fmt::Formatter<W>) -> fmt::Result {
-        let rounds = self.machine.rounds;
+        let machine = self.machine;
+        let rounds = machine.rounds;
         let visited = self.walk.visited();
-        let failed = self.walk.failed();
-        let cut = self.walk.cut();
-        let full = self.walk.full();
         if self.done {
             writeln!(f, "all schedules over {rounds} rounds: {visited}")?;
         } else {
@@ -173,18 +163,21 @@ impl<V: Kind> fmt::Display for SurveyText<'_, V> {
                 "the first {visited} schedules over {rounds} rounds; there are more, and a walk visits no more than that"
             )?;
         }
-        writeln!(f, "failed: {failed}; cut: {cut}; full: {full}")?;
-        for numbers in self.failures.lists.iter() {
+        writeln!(
+            f,
+            "failed: {}; cut: {}; full: {}",
+            self.walk.failed(),
+            self.walk.cut(),
+            self.walk.full()
+        )?;
+        for numbers in &self.failures.lists {
             write!(f, "failing schedule:")?;
-            for n in numbers.iter() {
+            for n in numbers {
                 write!(f, " {n}")?;
             }
             writeln!(f, "")?;
-            let slots = SlotsText {
-                machine: self.machine,
-                numbers: numbers.as_slice(),
-            };
-            write!(f, "{slots}")?;
+            let numbers = numbers.as_slice();
+            write!(f, "{}", SlotsText { machine, numbers })?;
         }
         Ok(())
     }

@@ -2,6 +2,7 @@
 #![tactic(auto)]
 
 pub mod body;
+pub mod display;
 pub mod lookup;
 pub mod reader;
 pub mod refusal;

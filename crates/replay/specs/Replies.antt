@@ -1,23 +1,22 @@
--- What a session answers to a call.
+-- What a job answers to a call, from its model.
 use Rattle.std.specs.Prelude.{ℕ, List, length, replicate, Some, None, Ok, Err, vec_items, Option, Result}
 use Rattle.kinds.specs.Meaning.{Meaning}
+use Rattle.agreement.specs.Agreement.{Told, play_told}
+use Rattle.walks.specs.declared.counts.Counts.{Counts}
+use Rattle.jobs.specs.Models as jobs
+use Rattle.jobs.specs.Models.{Model, translate_answer, survey_reply}
 use Rattle.questions.specs.Question.{question}
 use Rattle.records.specs.Wrote.{counted}
 use Rattle.records.specs.declared.refusal.LoadError.{LoadError}
 use Rattle.records.specs.declared.refusal.Refusal.{Refusal}
+use Rattle.records.specs.declared.refusal.Refusal.TheVariants.{NotLoaded, NotTranslated}
 use Rattle.tables.specs.Encoded.{encoded}
-use Rattle.tables.specs.Program.{Program, decoded}
 use Rattle.reports.specs.declared.report.Report.{Report}
-use Rattle.threads.specs.Plays.{Played, play, cells_of}
 use Rattle.reports.specs.Reports.{refusal}
-use Rattle.threads.specs.Reports.{reported}
 use Rattle.replay.specs.declared.answer.Answer.{Answer}
 use Rattle.replay.specs.declared.answer.Answer.TheVariants as answer
 use Rattle.replay.specs.declared.call.Call.{Call}
-use Rattle.replay.specs.declared.call.Call.TheVariants.{Load, Translate, Play, Save}
-use Rattle.replay.specs.declared.survey.Counts.{Counts}
-use Rattle.replay.specs.declared.session.Stage.TheVariants.{Loaded, Translated}
-use Rattle.replay.specs.Sessions.{Held, holds, settled, wants_program, wants_translated, else, first_no, translate_answer}
+use Rattle.replay.specs.declared.call.Call.TheVariants.{Load, Translate, Survey, Play, Save}
 
 -- an answer, with lists in the place of buffers
 pub data Said : Type 0 where
@@ -50,36 +49,44 @@ abbrev pub translate_said : Result (Unit {0}) Refusal → Said
 translate_said (Ok u) = translated
 translate_said (Err e) = refused e
 
-abbrev pub play_said : Option Refusal → Program → Played → Said
-play_said None p r = played (reported r) r.counts (cells_of p r.state)
-play_said (Some e) p r = refused e
+abbrev pub survey_said : Result Counts Refusal → Said
+survey_said (Ok c) = surveyed c
+survey_said (Err e) = refused e
+
+abbrev pub play_said : Option Refusal → Told → Said
+play_said None t = played t.report t.counts t.cells
+play_said (Some e) t = refused e
 
 abbrev pub save_said : List ℕ → Result ℕ Refusal → Said
 save_said bs (Ok n) = saved bs
 save_said bs (Err e) = refused e
 
--- the first no of a play with buffers of these lengths
-abbrev pub play_no : Held → List ℕ → ℕ → ℕ → Option Refusal
-play_no h ns counts cells = first_no (wants_translated h.stage) (refusal ns (replicate counts 0) (replicate cells 0) (length h.program.cells))
+-- a play with buffers of these lengths
+abbrev pub played_by : Meaning → Model → List ℕ → ℕ → ℕ → Said
+played_by k jobs.empty ns counts cells = refused NotTranslated
+played_by k (jobs.loaded p) ns counts cells = refused NotTranslated
+played_by k (jobs.translated p r v u) ns counts cells = play_said (refusal ns (replicate counts 0) (replicate cells 0) (length p.cells)) (play_told k p r ns)
 
-abbrev pub played_by : Meaning → Held → List ℕ → ℕ → ℕ → Said
-played_by k h ns counts cells = play_said (play_no h ns counts cells) h.program (play k h.program h.rounds ns)
+-- a save of some bytes, with a buffer of this length
+abbrev pub bytes_saved : List ℕ → ℕ → Said
+bytes_saved bs room = save_said bs (counted (replicate room 0) bs)
 
-abbrev pub file_of : Meaning → Held → List ℕ
-file_of k h = encoded k.byte h.program
+abbrev pub saved_by : Meaning → Model → ℕ → Said
+saved_by k jobs.empty room = refused NotLoaded
+saved_by k (jobs.loaded p) room = bytes_saved (encoded k.byte p) room
+saved_by k (jobs.translated p r v u) room = bytes_saved (encoded k.byte p) room
 
-abbrev pub saved_by : Meaning → Held → ℕ → Said
-saved_by k h room = save_said (file_of k h) (else (wants_program h.stage) (counted (replicate room 0) (file_of k h)))
+abbrev pub reply : Meaning → Model → Call → Said
+reply k m (Load file) = load_said (question k (vec_items file))
+reply k m (Translate rounds) = translate_said (translate_answer m rounds)
+reply k m (Survey b) = survey_said (survey_reply k m b)
+reply k m (Play ns counts cells) = played_by k m (vec_items ns) counts cells
+reply k m (Save room) = saved_by k m room
 
-abbrev pub reply : Meaning → Held → Call → Said
-reply k h (Load file) = load_said (question k (vec_items file))
-reply k h (Translate rounds) = translate_said (translate_answer h.stage rounds)
-reply k h (Play ns counts cells) = played_by k h (vec_items ns) counts cells
-reply k h (Save room) = saved_by k h room
-
--- what the session then holds
-abbrev pub next : Meaning → Held → Call → Held
-next k h (Load file) = settled (question k (vec_items file)) (holds Loaded (decoded (vec_items file)) h.rounds) h
-next k h (Translate rounds) = settled (translate_answer h.stage rounds) (holds Translated h.program rounds) h
-next k h (Play ns counts cells) = h
-next k h (Save room) = h
+-- the job behind a call
+abbrev pub next : Meaning → Model → Call → Model
+next k m (Load file) = jobs.next k m (jobs.load (vec_items file))
+next k m (Translate rounds) = jobs.next k m (jobs.translate rounds)
+next k m (Survey b) = jobs.next k m (jobs.survey b)
+next k m (Play ns counts cells) = m
+next k m (Save room) = m

@@ -2,10 +2,10 @@
 use Rattle.std.specs.Prelude.{◌≡◌, ℕ, ◌<◌, ◌≤◌, min, cond, List, [], map, length, take, drop, Some, vec_items, codes, ◌==◌, slice_index_or}
 use Rattle.std.specs.Borrow.{Bor}
 use Rattle.std.specs.List.{join_with_byte}
-use Rattle.std.specs.Str.Parse.{digits_value, without_leading_plus}
+use Rattle.hosts.specs.Numerals.{numeral}
 use Rattle.replay.specs.declared.call.Call.{Call}
-use Rattle.replay.specs.declared.call.Call.TheVariants.{Load, Translate, Play, Save}
-use Rattle.replay.specs.declared.call.KindName.TheVariants.{Words, Truth}
+use Rattle.replay.specs.declared.call.Call.TheVariants.{Load, Translate, Survey, Play, Save}
+use Rattle.hosts.specs.declared.known.KnownKind.TheVariants.{Words, Truth}
 use Rattle.replay.specs.declared.call.Line.{Line}
 use Rattle.replay.specs.declared.call.Line.TheVariants as line
 use Rattle.replay.specs.Hex.{bytes}
@@ -20,10 +20,6 @@ no_word = record { ref_ptr = (0, 0); now = [] }
 -- the text of the i-th word
 abbrev pub word : List Word → ℕ → List ℕ
 word ws i = (slice_index_or ws i no_word).now
-
--- the number that a word writes
-abbrev pub numeral : List ℕ → ℕ
-numeral w = digits_value 10 (without_leading_plus w)
 
 abbrev pub spelt : Word → ℕ
 spelt w = numeral w.now
@@ -44,18 +40,28 @@ Slash ws n = (n ≤ length ws) × (n < length ws → word ws n ≡ codes "/")
 abbrev pub Loads : List Word → Call → Type 0
 Loads ws (Load file) = Some (vec_items file) ≡ bytes (word ws 0)
 Loads ws (Translate rounds) = ⊥
+Loads ws (Survey b) = ⊥
 Loads ws (Play numbers counts cells) = ⊥
 Loads ws (Save out) = ⊥
 
 abbrev pub Translates : List Word → Call → Type 0
 Translates ws (Load file) = ⊥
 Translates ws (Translate rounds) = rounds ≡ numeral (word ws 0)
+Translates ws (Survey b) = ⊥
 Translates ws (Play numbers counts cells) = ⊥
 Translates ws (Save out) = ⊥
+
+abbrev pub Surveys : List Word → Call → Type 0
+Surveys ws (Load file) = ⊥
+Surveys ws (Translate rounds) = ⊥
+Surveys ws (Survey b) = b ≡ numeral (word ws 0)
+Surveys ws (Play numbers counts cells) = ⊥
+Surveys ws (Save out) = ⊥
 
 abbrev pub Plays : List Word → Call → Type 0
 Plays ws (Load file) = ⊥
 Plays ws (Translate rounds) = ⊥
+Plays ws (Survey b) = ⊥
 Plays ws (Play numbers counts cells) =
     (n : ℕ) × Slash ws n × (vec_items numbers ≡ map spelt (take n ws)) × (counts ≡ room_at (drop n ws) 1) × (cells ≡ room_at (drop n ws) 2)
 Plays ws (Save out) = ⊥
@@ -63,6 +69,7 @@ Plays ws (Save out) = ⊥
 abbrev pub Saves : List Word → Call → Type 0
 Saves ws (Load file) = ⊥
 Saves ws (Translate rounds) = ⊥
+Saves ws (Survey b) = ⊥
 Saves ws (Play numbers counts cells) = ⊥
 Saves ws (Save out) = out ≡ room_at ws 1
 
@@ -70,6 +77,7 @@ Saves ws (Save out) = out ≡ room_at ws 1
 abbrev pub Calls : List ℕ → List Word → Call → Type 0
 Calls name ws (Load file) = (name ≡ codes "load") × Loads ws (Load file)
 Calls name ws (Translate rounds) = (name ≡ codes "translate") × Translates ws (Translate rounds)
+Calls name ws (Survey b) = (name ≡ codes "survey") × Surveys ws (Survey b)
 Calls name ws (Play numbers counts cells) = (name ≡ codes "play") × Plays ws (Play numbers counts cells)
 Calls name ws (Save out) = (name ≡ codes "save") × Saves ws (Save out)
 

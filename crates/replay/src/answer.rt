@@ -1,9 +1,9 @@
 // The answers to a script.
 use crate::hex::HexText;
-use crate::survey::Counts;
 use records::refusal::{LoadError, Refusal};
 use reports::report::Report;
 use std::fmt;
+use walks::counts::Counts;
 use walks::outcome::{Ending, Outcome};
 use walks::walk;
 
@@ -67,43 +67,37 @@ impl fmt::Display for Answer {
                 report,
                 counts,
                 cells,
-            } => {
-                let outcome = OutcomeText(report.outcome);
-                let read = report.read;
-                let bound = report.outcome.bound();
-                let carried = report.carried;
-                let counts = ListText(counts.as_slice());
-                let cells = ListText(cells.as_slice());
+            } => write!(
+                f,
+                "{} read={} bound={} carried={} counts={} cells={}",
+                OutcomeText(report.outcome),
+                report.read,
+                report.outcome.bound(),
+                report.carried,
+                ListText(counts.as_slice()),
+                ListText(cells.as_slice())
+            ),
+            Answer::Saved(file) => write!(f, "{} bytes {}", file.len(), HexText(file.as_slice())),
+            Answer::Surveyed(counts) => {
+                let word = match counts.answer {
+                    walk::Answer::Done => "done",
+                    walk::Answer::Spent => "spent",
+                };
                 write!(
                     f,
-                    "{outcome} read={read} bound={bound} carried={carried} counts={counts} cells={cells}"
+                    "{word} visited={} failed={} cut={} full={}",
+                    counts.visited, counts.failed, counts.cut, counts.full
                 )
             }
-            Answer::Saved(file) => {
-                let length = file.len();
-                let file = HexText(file.as_slice());
-                write!(f, "{length} bytes {file}")
-            }
-            Answer::Surveyed(counts) => {
-                let visited = counts.visited;
-                let failed = counts.failed;
-                let cut = counts.cut;
-                let full = counts.full;
-                match counts.answer {
-                    walk::Answer::Done => write!(f, "done ")?,
-                    walk::Answer::Spent => write!(f, "spent ")?,
-                }
-                write!(f, "visited={visited} failed={failed} cut={cut} full={full}")
-            }
-            Answer::Refused(refusal) => {
-                let number = refusal.number();
-                write!(f, "refused {number}")
-            }
+            Answer::Refused(refusal) => write!(f, "refused {}", refusal.number()),
             Answer::RefusedFile(e) => {
-                let number = e.refusal.number();
-                let i = e.record;
-                let byte = e.byte;
-                write!(f, "refused {number} at {i},{byte}")
+                write!(
+                    f,
+                    "refused {} at {},{}",
+                    e.refusal.number(),
+                    e.record,
+                    e.byte
+                )
             }
             Answer::Unreadable => write!(f, "unreadable"),
         }

@@ -1,26 +1,22 @@
 // The calls of a script.
-ghost use Rattle.std.specs.Prelude.{◌≡◌, ◌≤◌, map, length, IfSome, IfOk};
-ghost use Rattle.std.specs.Option.{option_map};
-ghost use Rattle.replay.specs.Scripts.{spelt, room, room_at, Slash, Loads, Translates, Plays, Saves, News, Named, Says, LineSays};
+ghost use Rattle.std.specs.Prelude.{◌≡◌, ◌≤◌, length, IfSome, IfOk};
+ghost use Rattle.replay.specs.Scripts.{room, room_at, Slash, Loads, Translates, Surveys, Plays, Saves, News, Named, Says, LineSays};
 
 use crate::hex::bytes_of;
+use hosts::known::KnownKind;
+use hosts::numbers::numbers_of;
 use std::alloc::{AllocError, Global};
 use std::str::from_utf8;
 
 // As long as any buffer has to be.
 pub const AMPLE: usize = 65_536;
 
-#[derive(Clone, Copy)]
-pub enum KindName {
-    Words,
-    Truth,
-}
-
-// A call on a session. A number of `counts`, `cells` or `room` is the length of a buffer that is lent.
+// A call on a job. A number of `counts`, `cells` or `room` is the length of a buffer that is lent.
 #[derive(Drop)]
 pub enum Call {
     Load(Vec<u8>),
     Translate(u32),
+    Survey(u32),
     Play {
         numbers: Vec<u8>,
         counts: usize,
@@ -31,10 +27,10 @@ pub enum Call {
     },
 }
 
-// A line of a script: a new session, or a call on the one that is open.
+// A line of a script: a new job, or a call on the one that is open.
 #[derive(Drop)]
 pub enum Line {
-    New(KindName),
+    New(KnownKind),
     Call(Call),
 }
 
@@ -42,24 +38,8 @@ pub enum Line {
 fn room_of(word: &str) -> Option<usize>
     ensures { IfSome result (λ n. n ≡ room word.now) }
 {
-    let Ok(n) = word.parse::<usize>() else {
-        return None;
-    };
+    let n = word.parse::<usize>().ok()?;
     Some(n.min(AMPLE))
-}
-
-// The numbers of a schedule, or none where a word is no number.
-fn numbers_of(heap: Global, words: &[&str]) -> Result<Option<Vec<u8>>, AllocError>
-    ensures { IfOk result (λ o. IfSome o (λ v. v.items ≡ map spelt words.now)) }
-{
-    let mut numbers = Vec::new(heap);
-    for word in words {
-        let Ok(n) = word.parse::<u8>() else {
-            return Ok(None);
-        };
-        numbers.push(n)?;
-    }
-    Ok(Some(numbers))
 }
 
 // The index of the first `/`, or the number of words where there is none.
@@ -67,12 +47,10 @@ fn slash_in(words: &[&str]) -> usize
     ensures within { result ≤ length words.now }
     ensures found { Slash words.now result }
 {
-    for (i, word) in words.iter().enumerate() {
-        if *word == "/" {
-            return i;
-        }
-    }
-    words.len()
+    words
+        .iter()
+        .position(|word| *word == "/")
+        .unwrap_or(words.len())
 }
 
 // The lengths of the two buffers of a play, from the `/` on.
@@ -92,10 +70,7 @@ impl Call {
     {
         match words {
             [] => Ok(Some(Call::Load(Vec::new(heap)))),
-            [hex] => match bytes_of(heap, hex)? {
-                Some(file) => Ok(Some(Call::Load(file))),
-                None => Ok(None),
-            },
+            [hex] => Ok(bytes_of(heap, hex)?.map(Call::Load)),
             _ => Ok(None),
         }
     }
@@ -104,10 +79,16 @@ impl Call {
         ensures { IfSome result (Translates words.now) }
     {
         match words {
-            [rounds] => match rounds.parse::<u32>() {
-                Ok(rounds) => Some(Call::Translate(rounds)),
-                Err(_) => None,
-            },
+            [rounds] => Some(Call::Translate(rounds.parse().ok()?)),
+            _ => None,
+        }
+    }
+
+    fn survey(words: &[&str]) -> Option<Call>
+        ensures { IfSome result (Surveys words.now) }
+    {
+        match words {
+            [b] => Some(Call::Survey(b.parse().ok()?)),
             _ => None,
         }
     }
@@ -147,18 +128,9 @@ impl Line {
         ensures { IfSome result (News words.now) }
     {
         match words {
-            ["words"] => Some(Line::New(KindName::Words)),
-            ["truth"] => Some(Line::New(KindName::Truth)),
+            ["words"] => Some(Line::New(KnownKind::Words)),
+            ["truth"] => Some(Line::New(KnownKind::Truth)),
             _ => None,
-        }
-    }
-
-    fn of(call: Option<Call>) -> Option<Line>
-        ensures { result ≡ option_map Line.Call call }
-    {
-        match call {
-            Some(call) => Some(Line::Call(call)),
-            None => None,
         }
     }
 
@@ -168,10 +140,11 @@ impl Line {
     {
         match name {
             "new" => Ok(Line::new(words)),
-            "load" => Ok(Line::of(Call::load(heap, words)?)),
-            "translate" => Ok(Line::of(Call::translate(words))),
-            "play" => Ok(Line::of(Call::play(heap, words)?)),
-            "save" => Ok(Line::of(Call::save(words))),
+            "load" => Ok(Call::load(heap, words)?.map(Line::Call)),
+            "translate" => Ok(Call::translate(words).map(Line::Call)),
+            "survey" => Ok(Call::survey(words).map(Line::Call)),
+            "play" => Ok(Call::play(heap, words)?.map(Line::Call)),
+            "save" => Ok(Call::save(words).map(Line::Call)),
             _ => Ok(None),
         }
     }

@@ -1,35 +1,37 @@
-// The session that is open.
+// The job that is open.
 ghost use Rattle.std.specs.Prelude.{◌≡◌, IfOk};
-ghost use Rattle.replay.specs.Desks.{opened, made_new, line_reply, line_next};
+ghost use Rattle.replay.specs.Desks.{Open, Holds, made_new, line_reply, line_next};
 ghost use Rattle.replay.specs.Replies.{said};
 
 use crate::answer::Answer;
-use crate::call::{KindName, Line};
-use crate::session::Session;
+use crate::call::Line;
+use crate::reply::reply;
+use hosts::known::KnownKind;
+use jobs::job::Job;
 use kinds::{Truth, Words};
 use std::alloc::{AllocError, Global};
 
 #[derive(Drop)]
 pub enum Desk {
     Nothing,
-    Words(Session<Words>),
-    Truth(Session<Truth>),
+    Words(Job<Words>),
+    Truth(Job<Truth>),
 }
 
 impl Desk {
-    // A new session of a kind.
-    fn open(heap: Global, kind: KindName) -> Result<Desk, AllocError>
-        ensures { IfOk result (λ d. opened d ≡ made_new kind) }
+    // A new job of a kind.
+    fn open(heap: Global, kind: KnownKind) -> Result<Desk, AllocError>
+        ensures { IfOk result (λ d. Holds d (made_new kind)) }
     {
         match kind {
-            KindName::Words => Ok(Desk::Words(Session::new(heap)?)),
-            KindName::Truth => Ok(Desk::Truth(Session::new(heap)?)),
+            KnownKind::Words => Ok(Desk::Words(Job::new(heap)?)),
+            KnownKind::Truth => Ok(Desk::Truth(Job::new(heap)?)),
         }
     }
 
-    // Answers a line. A call before any new session is unreadable.
+    // Answers a line. A call before any new job is unreadable.
     pub fn reply(&mut self, heap: Global, line: &Line) -> Result<Answer, AllocError>
-        ensures { IfOk result (λ a. (said a ≡ line_reply (opened self.old) line.now) × (opened self.new ≡ line_next (opened self.old) line.now)) }
+        ensures { (o : Open) → Holds self.old o → IfOk result (λ a. (said a ≡ line_reply o line.now) × Holds self.new (line_next o line.now)) }
     {
         match line {
             Line::New(kind) => {
@@ -38,24 +40,9 @@ impl Desk {
             }
             Line::Call(call) => match self {
                 Desk::Nothing => Ok(Answer::Unreadable),
-                Desk::Words(session) => session.reply(heap, call),
-                Desk::Truth(session) => session.reply(heap, call),
+                Desk::Words(job) => reply(job, heap, call),
+                Desk::Truth(job) => reply(job, heap, call),
             },
-        }
-    }
-
-    // Goes on with the survey of the session that is open.
-    pub fn survey(&mut self, b: u32) -> Answer
-        ensures { opened self.new ≡ opened self.old }
-    {
-        let counted = match self {
-            Desk::Nothing => return Answer::Unreadable,
-            Desk::Words(session) => session.survey_on(b),
-            Desk::Truth(session) => session.survey_on(b),
-        };
-        match counted {
-            Ok(counts) => Answer::Surveyed(counts),
-            Err(refusal) => Answer::Refused(refusal),
         }
     }
 }

@@ -32,13 +32,13 @@ pub fn bytes_of(heap: Global, text: &str) -> Result<Option<Vec<u8>>, AllocError>
     ensures value { IfOk result (λ o. option_map vec_items o ≡ bytes text.now) }
     ensures half { IfOk result (λ o. IfSome o (λ v. 2 * vec_len v ≡ length text.now)) }
 {
-    let digits = text.as_bytes();
-    if digits.len() % 2 != 0 {
+    let (pairs, rest) = text.as_bytes().as_chunks::<2>();
+    if !rest.is_empty() {
         return Ok(None);
     }
     let mut spelt = Vec::new(heap);
-    for i in 0..digits.len() / 2 {
-        let Some(b) = byte_of(digits[2 * i], digits[2 * i + 1]) else {
+    for [high, low] in pairs {
+        let Some(b) = byte_of(*high, *low) else {
             return Ok(None);
         };
         spelt.push(b)?;

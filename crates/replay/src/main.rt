@@ -4,7 +4,6 @@
 use crate::answer::Answer;
 use crate::call::Line;
 use crate::desk::Desk;
-use crate::survey::budget_of;
 use std::io::{BufRead, BufReader};
 
 mod answer;
@@ -12,20 +11,15 @@ mod call;
 mod desk;
 mod hex;
 mod reply;
-mod session;
-mod survey;
 
 fn main(rt: HostRuntime) -> anyhow::Result<()> {
     let heap = rt.alloc();
     let mut desk = Desk::Nothing;
     for bytes in BufReader::new(heap, rt.stdin())?.split(heap, b'\n') {
         let bytes = bytes?;
-        let answer = match budget_of(heap, bytes.as_slice())? {
-            Some(b) => desk.survey(b),
-            None => match Line::from_bytes(heap, bytes.as_slice())? {
-                Some(line) => desk.reply(heap, &line)?,
-                None => Answer::Unreadable,
-            },
+        let answer = match Line::from_bytes(heap, bytes.as_slice())? {
+            Some(line) => desk.reply(heap, &line)?,
+            None => Answer::Unreadable,
         };
         println!(rt; "{answer}")?;
     }

@@ -15,10 +15,12 @@ slots_long : (f : ℕ → ℕ) (a n : ℕ) → length (map f (range_with_len a n
 slots_long f a zero = omega arith
 slots_long f a (suc n) = let e = slots_long f (a + 1) n in omega arith
 
-pub driver_fits : (p : Program) (rounds : ℕ) → rounds ≤ 8 → length p.texts ≤ 8 → take 257 (driver p rounds) ≡ driver p rounds
-driver_fits p rounds r t =
+pub driver_few : (p : Program) (rounds : ℕ) → slot_total p rounds ≤ 64 → length (driver p rounds) ≤ 257
+driver_few p rounds h =
     let n = slot_total p rounds in
-    let m = mul-le rounds (length p.texts) 8 8 r t in
     let a = driver_long p (program_slots p n) 0 in
     let b = slots_long (λ q. q % length p.texts) 0 n in
-    take_all 257 (driver p rounds) (omega arith)
+    omega arith
+
+pub driver_fits : (p : Program) (rounds : ℕ) → rounds ≤ 8 → length p.texts ≤ 8 → take 257 (driver p rounds) ≡ driver p rounds
+driver_fits p rounds r t = take_all 257 (driver p rounds) (driver_few p rounds (mul-le rounds (length p.texts) 8 8 r t))

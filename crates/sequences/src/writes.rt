@@ -1,5 +1,5 @@
 // The translation: the section of a thread, and the driver.
-ghost use Rattle.std.specs.Prelude.{◌≡◌, ◌%◌, ◌<◌, ◌≤◌, ◌++◌, length, take};
+ghost use Rattle.std.specs.Prelude.{◌≡◌, ◌*◌, ◌%◌, ◌<◌, ◌≤◌, ◌++◌, length, take};
 ghost use Rattle.std.specs.List.{AllByRecursion};
 ghost use Rattle.tables.specs.Program.{own};
 ghost use Rattle.tables.specs.Slots.{slot_total};
@@ -143,8 +143,7 @@ fn write_slot(driver: &mut Driver, table: &Table, i: Thread, at: u16)
 // How many slots so many rounds have.
 fn slots(table: &Table, rounds: u8) -> u16
     ensures value { result ≡ slot_total (view table.now) rounds }
-    ensures few { result ≤ 2040 }
-    ensures threads { length (view table.now).texts ≤ 8 }
+    ensures few { result ≤ 8 * rounds }
 {
     rounds as u16 * table.threads() as u16
 }
@@ -159,8 +158,8 @@ fn thread_at(table: &Table, q: u16) -> Thread
 
 // The driver of so many rounds.
 pub(crate) fn write_driver(driver: &mut Driver, table: &Table, rounds: u8)
-    ensures items { driver.new ≡ take 257 (driver.old ++ driver_code (view table.now) rounds) }
-    ensures threads { length (view table.now).texts ≤ 8 }
+    ensures value { driver.new ≡ take 257 (driver.old ++ driver_code (view table.now) rounds) }
+    ensures fits { rounds ≤ 8 → length (driver_code (view table.now) rounds) ≤ 257 }
 {
     for q in 0..slots(table, rounds) {
         write_slot(driver, table, thread_at(table, q), 4 * q);

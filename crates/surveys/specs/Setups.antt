@@ -8,8 +8,8 @@ use Rattle.tables.specs.Program.{decoded}
 use Rattle.threads.specs.declared.machine.Machine.{Machine}
 use Rattle.threads.specs.Machines.{program, rounds_asked}
 use Rattle.threads.specs.Points.{Ready}
-use Rattle.surveys.specs.declared.setup.Problem.{Problem}
-use Rattle.surveys.specs.declared.setup.Problem.TheVariants.{Memory, File, Call}
+use Rattle.hosts.specs.declared.problem.Problem.{Problem}
+use Rattle.hosts.specs.declared.problem.Problem.TheVariants.{Memory, File, Call}
 
 -- a machine on the program of a file, with so many rounds, or the first no of Load and then of the rounds
 abbrev pub Made : {V : Type 0} {G : Ghosts V} → Meaning → List ℕ → ℕ → Result (Machine V G) Problem → Type 0

@@ -1,6 +1,7 @@
 -- What is said, from what the calls answer.
 use Rattle.std.proofs.Common.{◌≡◌, ℕ, ◌<◌, ◌≤◌, Bool, true, false, ◌&&◌, leb, List, [], ◌∷◌, length, get_or, drop, is_ok, IfOk, Ok, Err, Result, sym, refl, ap, ◌∙◌, inl, inr, arith}
 use Rattle.std.proofs.lemmas.Bool.{cases_lt, le-leb, lt-leb, cond-true, cond-false}
+use Rattle.hosts.specs.Knowns.{kind_of}
 use Rattle.kinds.specs.Meaning.{Meaning}
 use Rattle.records.specs.declared.refusal.LoadError.{LoadError}
 use Rattle.records.specs.declared.refusal.Refusal.{Refusal}
@@ -15,7 +16,7 @@ use Rattle.tables.proofs.Wells.{well}
 use Rattle.sections.specs.Digits.{two_digits}
 use Rattle.sections.specs.Emitted.{emitted}
 use Rattle.sections.proofs.Longs.{emitted_few}
-use Rattle.takeaways.specs.Replies.{Taken, rounds_asked, kind_of, taken, after_rounds, after_load, carried, answered, left_in, spoken, said}
+use Rattle.takeaways.specs.Replies.{Taken, rounds_asked, taken, after_rounds, after_load, carried, answered, left_in, spoken, said}
 
 module _ (k : Meaning) (r : ℕ) (f : List ℕ) where
   abbrev file : List ℕ

@@ -1,8 +1,7 @@
 -- What K's byte and a program file come to.
-use Rattle.std.specs.Prelude.{ℕ, cond, ◌&&◌, List, length, drop, Ok, Err, Result, ◌==◌, nat_le, slice_index}
+use Rattle.std.specs.Prelude.{ℕ, cond, ◌&&◌, List, length, drop, Ok, Err, Result, nat_le, slice_index}
 use Rattle.kinds.specs.Meaning.{Meaning}
-use Rattle.kinds.specs.Truth.{truth}
-use Rattle.kinds.specs.Words.{words}
+use Rattle.hosts.specs.Knowns.{kind_of}
 use Rattle.records.specs.declared.refusal.Refusal.{Refusal}
 use Rattle.records.specs.declared.refusal.Refusal.TheVariants.{Rounds, BufferShort}
 use Rattle.records.specs.Numbers.{number}
@@ -41,10 +40,6 @@ answered out (Err e) = Err e
 abbrev pub left_in : List ℕ → Taken → List ℕ
 left_in out (Ok bs) = filled out bs
 left_in out (Err e) = out
-
--- truth values where the file says so, words otherwise
-abbrev pub kind_of : List ℕ → Meaning
-kind_of f = cond (slice_index f 2 == 2) truth words
 
 -- the first byte is K, and the file stands behind it
 abbrev pub taken : List ℕ → Taken

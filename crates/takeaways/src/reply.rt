@@ -1,10 +1,11 @@
 // From K's byte and a program file to the file of its sequential program, or the digits of the refusal.
 ghost use Rattle.std.specs.Prelude.{◌≡◌, ◌≤◌, true, length, drop, is_ok, IfOk, slice_index};
+ghost use Rattle.hosts.specs.Knowns.{kind_of};
 ghost use Rattle.records.specs.Wrote.{counted, filled};
-ghost use Rattle.takeaways.specs.Replies.{rounds_asked, carried, answered, left_in, kind_of, taken, said, spoken};
+ghost use Rattle.takeaways.specs.Replies.{rounds_asked, carried, answered, left_in, taken, said, spoken};
 
+use hosts::known::KnownKind;
 use kinds::{Kind, Truth, Words};
-use records::lookup::item_or;
 use records::refusal::Refusal;
 use sections::digits::digits;
 use sections::emit::emit;
@@ -33,17 +34,16 @@ fn carry<V: Kind>(
     ensures answer { result ≡ answered out.old (carried V.meaning k file.now) }
     ensures after { out.new ≡ left_in out.old (carried V.meaning k file.now) }
 {
+    // by `map_err` and `?` the proof didn't close
     if let Err(e) = table.load::<V>(file) {
         return Err(e.refusal);
     }
-    if let Err(refusal) = ask_rounds(k) {
-        return Err(refusal);
-    }
+    ask_rounds(k)?;
     sequence.translate(table, k);
     emit(table, k, sequence, out)
 }
 
-// The same for the kind that the file's third byte names: truth values, or else words.
+// The same for the kind that the file names.
 fn carry_by_kind(
     k: u8,
     file: &[u8],
@@ -55,10 +55,9 @@ fn carry_by_kind(
     ensures answer { result ≡ answered out.old (carried (kind_of file.now) k file.now) }
     ensures after { out.new ≡ left_in out.old (carried (kind_of file.now) k file.now) }
 {
-    if item_or(file, 2, 0) == Truth::BYTE {
-        carry(k, file, table, truths, out)
-    } else {
-        carry(k, file, table, words, out)
+    match KnownKind::of(file) {
+        KnownKind::Words => carry(k, file, table, words, out),
+        KnownKind::Truth => carry(k, file, table, truths, out),
     }
 }
 

@@ -25,12 +25,13 @@ impl<V: Kind> Machine<V> {
         self.rounds * self.table.threads()
     }
 
-    // The thread that has slot `q`.
+    // The thread that has slot `q`. It is below 8 already: `min` tells the compiler, so that no question whether the state
+    // has the thread is left when a slot runs.
     fn thread_at(&self, q: u8) -> Thread
         requires { q < total self.now }
         ensures { result.0 ≡ q % width (program self.now) }
     {
-        Thread(q % self.table.threads())
+        Thread((q % self.table.threads()).min(7))
     }
 }
 

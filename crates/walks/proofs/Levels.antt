@@ -88,7 +88,10 @@ module _ {P : Type 0} (xs : List (Level P)) (i b : ℕ) (r s : Level P) where
   push_points = map-set_same (λ (l : Level P). l.point) zeroed i _ s refl ∙ map-set_same (λ (l : Level P). l.point) xs i _ r refl
 
 -- a turn: of i levels the last, or those before it
-module _ {P : Type 0} (w c : Cursor P) (i : ℕ) (same : w ≡ c) (some : 0 < i) (room : i - 1 < length w.levels) (q r : Level P) where
+module _ {P : Type 0} (w c : Cursor P) (i : ℕ) (same : w ≡ c) (some : 0 < i) (le : i ≤ c.depth) (q r : Level P) where
+  room : i - 1 < length w.levels
+  room = omega (arith, some, le, c.few, w.wide)
+
   at_number : get_or (levels w).numbers (i - 1) 0 ≡ (get_or w.levels (i - 1) q).number
   at_number = get_or-map (λ (l : Level P). l.number) w.levels (i - 1) q 0 room
 

@@ -49,9 +49,7 @@ impl<V: Kind> Job<V> {
         ensures answer { result ≡ question V.meaning file.now }
         ensures after { (m : Model) → Keeps V.meaning self.old m → Keeps V.meaning self.new (next V.meaning m (load file.now)) }
     {
-        if let Err(e) = self.threads.table.load::<V>(file) {
-            return Err(e);
-        }
+        self.threads.table.load::<V>(file)?;
         self.stage = Stage::Loaded;
         Ok(())
     }
@@ -75,9 +73,7 @@ impl<V: Kind> Job<V> {
         if let Stage::Empty = self.stage {
             return Err(Refusal::NotLoaded);
         }
-        if let Err(e) = self.threads.set_rounds(rounds) {
-            return Err(e);
-        }
+        self.threads.set_rounds(rounds)?;
         self.translated();
         Ok(())
     }

@@ -1,7 +1,7 @@
 // Play and Drive: a run over one list of numbers.
 ghost use Rattle.std.specs.Prelude.{◌≡◌};
 ghost use Rattle.jobs.specs.Keeps.{Keeps};
-ghost use Rattle.jobs.specs.Models.{Model, lent_as, play_reply, drive_reply, LawfulPlay, LawfulDrive};
+ghost use Rattle.jobs.specs.Models.{Model, lent_as, cell_count, play_reply, drive_reply, LawfulPlay, LawfulDrive};
 
 use crate::job::{Job, Stage};
 use kinds::Kind;
@@ -9,6 +9,16 @@ use records::refusal::Refusal;
 use reports::report::Report;
 
 impl<V: Kind> Job<V> {
+    // How many cells the program has: so many codes a run leaves.
+    pub fn cells(&self) -> usize
+        ensures { (m : Model) → Keeps V.meaning self.now m → result ≡ cell_count m }
+    {
+        match self.stage {
+            Stage::Empty => 0,
+            Stage::Loaded | Stage::Translated => self.threads.table.cells().len(),
+        }
+    }
+
     // Play: a run of the thread machine over a schedule.
     pub fn play(
         &self,

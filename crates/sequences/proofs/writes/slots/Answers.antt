@@ -10,4 +10,4 @@ overflow_mul-result c =
 pub returns : goal.returns
 returns c =
     let f = c.threads.ensures.value in
-    record { value = (cc); few = mul-le _ _ 255 8 (omega arith) c.threads.ensures.few; threads = omega arith }
+    record { value = (cc); few = omega (arith, mul-le c.args.rounds c.threads.result c.args.rounds 8 (omega arith) c.threads.ensures.few) }

@@ -1,6 +1,7 @@
 use Rattle.std.proofs.Common.{◌<◌, ◌≤◌, ◌++◌, length, take, sym, ap, ◌∙◌, arith}
 use Rattle.tables.specs.Tables.{view}
 use Rattle.tables.specs.Slots.{slot_total}
+use Rattle.sequences.proofs.Drivers.{driver_few}
 use Rattle.sequences.proofs.Writings.{driver_start, driver_more, driver_ends, threads_some}
 use Rattle.sequences.proofs.writes.write_driver.Goals as goal
 
@@ -32,9 +33,9 @@ returns c =
     let n = slot_total p c.args.rounds in
     let l : n ≤ c.loop-q.q = omega (arith, c.slots-q-end.ensures.value) in
     record {
-      items =
+      value =
           c.push.ensures.value
           ∙ ap (λ xs. take 257 (c.loop-q.driver ++ xs)) (sym (driver_ends p (length p.texts) n c.loop-q.q l))
           ∙ c.loop-q.invariant;
-      threads = c.slots-q-end.ensures.threads;
+      fits = λ few. driver_few p c.args.rounds (omega (arith, c.slots-q-end.ensures.value, c.slots-q-end.ensures.few));
     }

@@ -1,10 +1,11 @@
 use Rattle.std.proofs.Common.{◌≡◌, ◌+◌, get_or, drop, is_ok, refl, ap, ◌∙◌, arith}
 use Rattle.std.proofs.lemmas.List.{get_or-drop}
+use Rattle.hosts.specs.Knowns.{kind_of}
 use Rattle.records.specs.Lines.{Bytes}
 use Rattle.records.specs.Numbers.{number}
 use Rattle.records.specs.Wrote.{counted, filled}
 use Rattle.sections.specs.Digits.{two_digits}
-use Rattle.takeaways.specs.Replies.{kind_of, taken, answered, left_in}
+use Rattle.takeaways.specs.Replies.{taken, answered, left_in}
 use Rattle.takeaways.proofs.Replying.{carried_few, wrote_all, wrote_none, said_whole, counted_within, counted_some, taken_by}
 use Rattle.takeaways.proofs.reply.reply.Goals as goal
 

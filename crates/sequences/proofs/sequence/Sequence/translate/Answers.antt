@@ -2,7 +2,6 @@ use Rattle.std.proofs.Common.{◌++◌, take, ap, ◌∙◌}
 use Rattle.std.proofs.lemmas.List.{take_all}
 use Rattle.tables.specs.Tables.{view}
 use Rattle.sequences.specs.Code.{driver}
-use Rattle.sequences.proofs.Drivers.{driver_fits}
 use Rattle.sequences.proofs.Smalls.{well_translatable}
 use Rattle.sequences.proofs.sequence.Sequence.translate.Goals as goal
 
@@ -19,9 +18,9 @@ returns g c =
                 ∙ take_all 16 c.cells.result.now c.cells.ensures.few
                 ∙ c.cells.ensures.value;
             guide =
-                c.write_driver.ensures.items
+                c.write_driver.ensures.value
                 ∙ ap (λ xs. take 257 (xs ++ driver p c.args.rounds)) c.clear-2.ensures
-                ∙ driver_fits p c.args.rounds few c.write_driver.ensures.threads;
+                ∙ take_all 257 (driver p c.args.rounds) (c.write_driver.ensures.fits few);
             sections = c.write_sections.ensures small;
           };
       well = well_translatable g.V.Kind.meaning p;

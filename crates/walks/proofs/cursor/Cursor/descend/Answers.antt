@@ -1,4 +1,6 @@
 use Rattle.std.proofs.Common.{◌∙◌, arith}
+use Rattle.walks.specs.declared.outcome.Ending.TheVariants.{Cut}
+use Rattle.walks.specs.Cursors.{Descended}
 use Rattle.walks.proofs.Descents.{no_room, deeper, goes_down}
 use Rattle.walks.proofs.cursor.Cursor.descend.Goals as goal
 
@@ -19,13 +21,8 @@ loop-ending-preserved g c =
           (down.0, down.1 ∙ i.1),
     )
 
-pub loop-ending-smaller : goal.loop-ending-smaller
-loop-ending-smaller g c =
-    let more = deeper c.loop-ending.self c.step.new.self c.push.new.self c.in-Open.bound c.step.ensures.path c.loop-ending.invariant.0 c.if-self-eq64.false c.push.ensures.path in
-    omega (arith, more.0, more.1)
-
 pub returns-then-self-eq64 : goal.returns-then-self-eq64
 returns-then-self-eq64 g c ready placed =
     let r = c.args.r.now in
     let at = c.in-Open.ensures.point (c.loop-ending.invariant.1 ready placed).0 in
-    absurd (no_room (g.R.Runner.outcome r) (g.met.R.Runner.lawful r ready) c.step.new.self c.in-Open.bound c.if-self-eq64.true at.0)
+    absurd {A = Descended (g.R.Runner.outcome r) (g.R.Runner.stands r) c.args.self.now c.step.new.self Cut} (no_room (g.R.Runner.outcome r) (g.met.R.Runner.lawful r ready) c.step.new.self c.in-Open.bound c.if-self-eq64.true at.0)

@@ -8,7 +8,7 @@ use Rattle.walks.proofs.cursor.Cursor.turn.Goals as goal
 pub returns-then-self-i-clause-path : goal.returns-then-self-i-clause-path
 returns-then-self-i-clause-path g c =
     let l = c.loop-i in
-    turn_up l.self c.args.self.now l.i l.invariant.0 c.loop-i-test.true (omega (arith, l.auto.i, c.args.self.now.few, l.self.wide)) c.index-self-i.result c.index-self-i-in-loop-i.result l.invariant.1 c.if-self-i.true c.index-self-i-then-self-i.result c.index-self-i-then-self-i-2.result _ refl refl
+    turn_up l.self c.args.self.now l.i l.invariant.0 c.loop-i-test.true l.auto.i c.index-self-i.result c.index-self-i-in-loop-i.result l.invariant.1 c.if-self-i.true c.index-self-i-then-self-i.result c.index-self-i-then-self-i-2.result _ refl refl
 
 pub returns-then-self-i-clause-points : goal.returns-then-self-i-clause-points
 returns-then-self-i-clause-points g c =
@@ -19,7 +19,7 @@ pub loop-i-preserved : goal.loop-i-preserved
 loop-i-preserved g c =
     let l = c.loop-i in (
       l.invariant.0,
-      turn_back l.self c.args.self.now l.i l.invariant.0 c.loop-i-test.true (omega (arith, l.auto.i, c.args.self.now.few, l.self.wide)) c.index-self-i.result c.index-self-i-in-loop-i.result l.invariant.1 c.if-self-i.false,
+      turn_back l.self c.args.self.now l.i l.invariant.0 c.loop-i-test.true l.auto.i c.index-self-i.result c.index-self-i-in-loop-i.result l.invariant.1 c.if-self-i.false,
     )
 
 pub returns-clause-path : goal.returns-clause-path

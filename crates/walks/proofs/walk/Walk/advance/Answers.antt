@@ -4,12 +4,6 @@ use Rattle.walks.proofs.Advances.{one_more, runs_out, answers}
 use Rattle.walks.proofs.Rows.{complete}
 use Rattle.walks.proofs.walk.Walk.advance.Goals as goal
 
-pub loop-init : goal.loop-init
-loop-init g c = (omega arith, λ ready tied. tied)
-
-pub visit-requires : goal.visit-requires
-visit-requires g c = omega (arith, c.loop.invariant.0, c.requires, c.loop-test.true)
-
 pub loop-preserved : goal.loop-preserved
 loop-preserved g c =
     let told = c.visit.ensures in

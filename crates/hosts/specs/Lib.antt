@@ -1,0 +1,4 @@
+pub mod Knowns
+pub mod Problems
+pub mod Tolds
+pub mod Numerals
