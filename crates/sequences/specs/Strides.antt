@@ -4,7 +4,7 @@ use Rattle.std.specs.declared.ops.ControlFlow.{ControlFlow}
 use Rattle.std.specs.declared.ops.ControlFlow.TheVariants.{Continue, Break}
 use Rattle.kinds.specs.Meaning.{Meaning}
 use Rattle.walks.specs.declared.outcome.Ending.TheVariants as ending
-use Rattle.walks.specs.declared.outcome.Outcome.TheVariants.{Open, Ended}
+use Rattle.walks.specs.declared.outcome.Outcome.TheVariants.{Open}
 use Rattle.reports.specs.declared.report.Turn.{Turn}
 use Rattle.reports.specs.Players.{over}
 use Rattle.reports.specs.Stops.{End}

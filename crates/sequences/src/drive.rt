@@ -121,6 +121,7 @@ impl<V: Kind> Sequence<V> {
         ensures { with_point result at.new ≡ proceeds V.meaning (instructions self.now) at.old.at.0 at.old.state }
     {
         let mut count = 0;
+        // Steps are counted so that the loop ends whatever the driver is.
         for _step in 0..self.driver.len() {
             match self.stride(at, count) {
                 ControlFlow::Continue(c) => count = c,

@@ -75,6 +75,7 @@ pub(crate) fn call_section<V: Kind>(
 {
     let mut at = 0;
     let mut count = 0;
+    // Steps are counted so that the loop ends whatever the section is.
     for _step in 0..code.len() {
         if at >= code.len() {
             break;
