@@ -86,7 +86,7 @@ impl<V: Kind> fmt::Display for SlotsText<'_, V> {
             write!(
                 f,
                 "  round {round}, thread {i}: number {n}, {} statements carried out",
-                turn.count
+                turn.count.0
             )?;
             if turn.outcome == Outcome::Ended(Ending::Failed) {
                 let label = at.state.threads.label(Thread(i));

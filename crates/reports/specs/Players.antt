@@ -9,7 +9,7 @@ use Rattle.reports.specs.Reports.{report}
 
 -- a number with which the run has ended
 abbrev pub over : ℕ → Ending → Turn
-over c e = record { count = c; outcome = Ended e }
+over c e = record { count = record { 0 = c }; outcome = Ended e }
 
 -- what a number came to: its count, how the run stands then, and where
 pub record Turned (P : Type 0) : Type 0 where
@@ -28,7 +28,7 @@ reported r = report r.outcome r.counts
 
 module _ {P : Type 0} where
   abbrev pub with_point : Turn → P → Turned P
-  with_point t at = record { count = t.count; outcome = t.outcome; point = at }
+  with_point t at = record { count = t.count.0; outcome = t.outcome; point = at }
 
   abbrev pub stays : Outcome → P → Told P
   stays o at = record { outcome = o; counts = []; point = at }

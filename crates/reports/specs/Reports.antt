@@ -12,7 +12,7 @@ report o counts = record { outcome = o; read = length counts; carried = sum coun
 
 -- a report of one number more
 abbrev pub noted : Report → Turn → Report
-noted r t = record { outcome = t.outcome; read = r.read + 1; carried = r.carried + t.count }
+noted r t = record { outcome = t.outcome; read = r.read + 1; carried = r.carried + t.count.0 }
 
 -- a buffer with numbers at its front; those past them stay
 abbrev pub front : List ℕ → List ℕ → List ℕ

@@ -62,7 +62,7 @@ fn run<M: Player>(
             return report;
         }
         let turn = machine.read(at, *number);
-        counts[j] = turn.count;
+        counts[j] = turn.count.0;
         report.note(turn);
     }
     report

@@ -14,17 +14,21 @@ pub struct Report {
     pub carried: u16,
 }
 
+// How many statements a thread carries out in a slot. Never a place in its text: that is a `Label`.
+#[derive(Clone, Copy, PartialEq, Eq)]
+pub struct SlotCount(pub u8);
+
 // What a number came to: the statements carried out in its slot, and how the run stands then.
 #[derive(Clone, Copy)]
 pub struct Turn {
-    pub count: u8,
+    pub count: SlotCount,
     pub outcome: Outcome,
 }
 
 impl Turn {
     // A number with which the run has ended.
-    pub fn ended(count: u8, ending: Ending) -> Turn
-        ensures { result ≡ over count ending }
+    pub fn ended(count: SlotCount, ending: Ending) -> Turn
+        ensures { result ≡ over count.0 ending }
     {
         Turn {
             count,
@@ -37,11 +41,11 @@ impl Report {
     // One number more was read, and came to this.
     pub fn note(&mut self, turn: Turn)
         requires read { self.old.read < 255 }
-        requires carried { self.old.carried + turn.count < 2 ^ 16 }
+        requires carried { self.old.carried + turn.count.0 < 2 ^ 16 }
         ensures { self.new ≡ noted self.old turn }
     {
         self.read += 1;
-        self.carried += turn.count as u16;
+        self.carried += u16::from(turn.count.0);
         self.outcome = turn.outcome;
     }
 }

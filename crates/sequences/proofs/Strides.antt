@@ -35,7 +35,7 @@ got_below h xs (Some x) n l few e = omega (arith, l.0)
 -- what an instruction makes of the run: `more` is the run from another address
 abbrev pub onward : (ℕ → ℕ → SeqState → Moved) → SeqPoint → ControlFlow Turn ℕ → Moved
 onward more p (Continue c) = more p.at.0 c p.state
-onward more p (Break t) = moved t.count t.outcome p.at.0 p.state
+onward more p (Break t) = moved t.count.0 t.outcome p.at.0 p.state
 
 abbrev onward_by : (ℕ → ℕ → SeqState → Moved) → Strode → Moved
 onward_by more s = onward more s.point s.stride

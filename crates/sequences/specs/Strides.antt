@@ -19,7 +19,7 @@ use Rattle.sequences.specs.Words.{active, saved, stop_at}
 
 -- a turn that waits for a number
 abbrev pub waiting : ℕ → ℕ → Turn
-waiting c b = record { count = c; outcome = Open b }
+waiting c b = record { count = record { 0 = c }; outcome = Open b }
 
 -- whether the driver goes on, with the latest CALL's count, and where it is
 pub record Strode : Type 0 where

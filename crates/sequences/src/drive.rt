@@ -15,7 +15,7 @@ use crate::state::SeqState;
 use kinds::Kind;
 use records::lookup::{item_or, part_of};
 use records::statement::Thread;
-use reports::report::Turn;
+use reports::report::{SlotCount, Turn};
 use std::ops::ControlFlow;
 use walks::outcome::{Ending, Outcome};
 
@@ -68,7 +68,10 @@ impl<V: Kind> Sequence<V> {
                 at.at = Address(at.at.0 + 1);
                 ControlFlow::Continue(section.count)
             }
-            Err(stop) => ControlFlow::Break(Turn::ended(section.count, Ending::from(stop))),
+            Err(stop) => ControlFlow::Break(Turn::ended(
+                SlotCount(section.count),
+                Ending::from(stop),
+            )),
         }
     }
 
@@ -90,7 +93,7 @@ impl<V: Kind> Sequence<V> {
             Instruction::Guess { i, n } => {
                 let bound = n.saturating_sub(at.state.saved(i));
                 ControlFlow::Break(Turn {
-                    count,
+                    count: SlotCount(count),
                     outcome: Outcome::Open(bound),
                 })
             }
@@ -101,8 +104,8 @@ impl<V: Kind> Sequence<V> {
                 at.at = behind;
                 ControlFlow::Continue(count)
             }
-            Instruction::End => ControlFlow::Break(Turn::ended(count, Ending::Full)),
-            _ => ControlFlow::Break(Turn::ended(count, Ending::Cut)),
+            Instruction::End => ControlFlow::Break(Turn::ended(SlotCount(count), Ending::Full)),
+            _ => ControlFlow::Break(Turn::ended(SlotCount(count), Ending::Cut)),
         }
     }
 
@@ -112,7 +115,7 @@ impl<V: Kind> Sequence<V> {
     {
         match self.next(at.at) {
             Some(instruction) => self.obey(at, count, instruction),
-            None => ControlFlow::Break(Turn::ended(count, Ending::Cut)),
+            None => ControlFlow::Break(Turn::ended(SlotCount(count), Ending::Cut)),
         }
     }
 
@@ -128,7 +131,7 @@ impl<V: Kind> Sequence<V> {
                 ControlFlow::Break(turn) => return turn,
             }
         }
-        Turn::ended(count, Ending::Cut)
+        Turn::ended(SlotCount(count), Ending::Cut)
     }
 
     // The number read by GUESS `i n` at a point.
@@ -138,7 +141,7 @@ impl<V: Kind> Sequence<V> {
     {
         let label = at.state.saved(i);
         if number > n.saturating_sub(label) {
-            return Turn::ended(0, Ending::Cut);
+            return Turn::ended(SlotCount(0), Ending::Cut);
         }
         at.state.set_word(STOP_AT, label + number);
         at.at = Address(at.at.0 + 1);
@@ -151,7 +154,7 @@ impl<V: Kind> Sequence<V> {
     {
         match self.next(at.at) {
             Some(Instruction::Guess { i, n }) => self.guess(at, i, n, number),
-            _ => Turn::ended(0, Ending::Cut),
+            _ => Turn::ended(SlotCount(0), Ending::Cut),
         }
     }
 

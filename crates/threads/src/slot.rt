@@ -6,12 +6,9 @@ ghost use Rattle.threads.specs.Slots.{run, ran, slot_of, counted};
 use crate::machine::Machine;
 use kinds::Kind;
 use records::statement::Thread;
+use reports::report::SlotCount;
 use reports::stop::Stop;
 use states::state::State;
-
-// How many statements a thread carries out in a slot. Never a place in its text: that is a `Label`.
-#[derive(Clone, Copy)]
-pub struct SlotCount(pub u8);
 
 // How a slot ended, and how many statements were carried out in it. A failing one counts, a blocking one does not.
 #[derive(Clone, Copy)]

@@ -8,10 +8,10 @@ ghost use Rattle.threads.specs.Turns.{width, seek as first_existing, standing as
 
 use crate::machine::Machine;
 use crate::point::Point;
-use crate::slot::{Slot, SlotCount};
+use crate::slot::Slot;
 use kinds::Kind;
 use records::statement::Thread;
-use reports::report::Turn;
+use reports::report::{SlotCount, Turn};
 use reports::stop::Stop;
 use states::state::State;
 use walks::outcome::{Ending, Outcome};
@@ -94,7 +94,7 @@ impl<V: Kind> Machine<V> {
         ensures { with_point result at.new ≡ turned_by V.meaning (program self.now) (total self.now) at.old number }
     {
         if at.slot >= self.slots() {
-            return Turn::ended(0, Ending::Full);
+            return Turn::ended(SlotCount(0), Ending::Full);
         }
         let i = self.thread_at(at.slot);
         let slot = self.serve(&mut at.state, i, SlotCount(number));
@@ -106,7 +106,7 @@ impl<V: Kind> Machine<V> {
             }
         };
         Turn {
-            count: slot.count.0,
+            count: slot.count,
             outcome,
         }
     }
