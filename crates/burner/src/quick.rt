@@ -10,7 +10,6 @@ use hosts::problem::Problem;
 use hosts::told::tell;
 use jobs::job::Job;
 use kinds::{Kind, Truth, Words};
-use records::refusal::Refusal;
 use std::alloc::Global;
 use walks::counts::Counts;
 
@@ -46,8 +45,5 @@ fn walk_kind(heap: Global, file: &[u8], rounds: u32, b: u32) -> Result<Counts, P
 pub extern "C" fn quick(heap: Global, file: &[u8], rounds: u32, b: u32, out: &mut [u8]) -> u32
     ensures { Quick file.now rounds b result out.new out.old }
 {
-    if out.len() < 12 {
-        return u32::from(Refusal::BufferShort.number());
-    }
-    tell(out, walk_kind(heap, file, rounds, b))
+    tell(out, || walk_kind(heap, file, rounds, b))
 }

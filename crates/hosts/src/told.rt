@@ -1,14 +1,15 @@
 // What a host program in C or Rust is told, in a number and bytes.
 ghost use Rattle.std.specs.Prelude.{◌≡◌, ◌≤◌, length};
 ghost use Rattle.reports.specs.Reports.{front};
-ghost use Rattle.hosts.specs.Tolds.{twelve, told};
+ghost use Rattle.hosts.specs.Tolds.{twelve, told, Told};
 
 use crate::problem::Problem;
+use records::refusal::Refusal;
 use walks::counts::Counts;
 use walks::walk::Answer;
 
 // Writes failed, cut and full, four bytes each, highest first.
-pub fn write_counts(out: &mut [u8], c: Counts)
+fn write_counts(out: &mut [u8], c: Counts)
     requires { 12 ≤ length out.old }
     ensures { out.new ≡ front (twelve c) out.old }
 {
@@ -22,7 +23,7 @@ pub fn write_counts(out: &mut [u8], c: Counts)
 }
 
 // Writes the counts and answers 0 where the walk is done and 1 where leaves are left; or answers the problem's number.
-pub fn tell(out: &mut [u8], counted: Result<Counts, Problem>) -> u32
+fn tell_counted(out: &mut [u8], counted: Result<Counts, Problem>) -> u32
     requires { 12 ≤ length out.old }
     ensures { told result out.new out.old counted }
 {
@@ -36,4 +37,15 @@ pub fn tell(out: &mut [u8], counted: Result<Counts, Problem>) -> u32
             }
         }
     }
+}
+
+// Asks for twelve bytes of buffer first, and tells what a walk has counted only then.
+pub fn tell<F: FnOnce() -> Result<Counts, Problem>>(out: &mut [u8], walk: F) -> u32
+    requires { F.pre walk }
+    ensures { Told (F.post walk) result out.new out.old }
+{
+    if out.len() < 12 {
+        return u32::from(Refusal::BufferShort.number());
+    }
+    tell_counted(out, walk())
 }

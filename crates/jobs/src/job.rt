@@ -6,13 +6,14 @@ use threads::machine::Machine;
 use threads::point::Point;
 use walks::walk::Walk;
 
+mod drives;
 mod files;
 mod found;
 mod makes;
-mod runs;
+mod plays;
 mod walking;
 
-#[derive(Clone, Copy)]
+#[derive(Clone, Copy, PartialEq, Eq)]
 pub enum Stage {
     Empty,
     Loaded,
@@ -20,7 +21,7 @@ pub enum Stage {
 }
 
 // The stage says which of the rest means something: the table from Loaded on, the sequential program and the two walks
-// where it is Translated.
+// where it is Translated. All of them are there from the start, since no call but making the job may want memory.
 #[derive(Drop)]
 pub struct Job<V: Kind> {
     pub(crate) stage: Stage,

@@ -57,6 +57,7 @@ fn run<M: Player>(
         read: 0,
         carried: 0,
     };
+    // By index: of a slice that `iter_mut` was zipped with, the library says nothing afterwards.
     for (j, number) in numbers.iter().enumerate() {
         if let Outcome::Ended(_) = report.outcome {
             return report;

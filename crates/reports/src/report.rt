@@ -39,7 +39,7 @@ impl Turn {
 
 impl Report {
     // One number more was read, and came to this.
-    pub fn note(&mut self, turn: Turn)
+    pub(crate) fn note(&mut self, turn: Turn)
         requires read { self.old.read < 255 }
         requires carried { self.old.carried + turn.count.0 < 2 ^ 16 }
         ensures { self.new ≡ noted self.old turn }

@@ -1,5 +1,6 @@
 // What an instruction of a section comes to in a state, before anything is changed.
-ghost use Rattle.std.specs.Prelude.{◌≡◌};
+ghost use Rattle.std.specs.Prelude.{◌≡◌, if◌then◌else◌};
+ghost use Rattle.sequences.specs.declared.act.Act.TheVariants.{On};
 ghost use Rattle.sequences.specs.Acts.{act as said_act, whole as is_whole, hopping};
 
 use crate::instruction::{Address, Instruction, STOP_AT, Word};
@@ -26,6 +27,13 @@ fn whole(w: Word) -> bool
     8 <= w.0 && w.0 < 16
 }
 
+// The section goes on if a test holds; `counts` says whether that completes a statement.
+fn on_if(holds: bool, counts: bool, otherwise: Act) -> Act
+    ensures { result ≡ (if holds then On counts else otherwise) }
+{
+    if holds { Act::On(counts) } else { otherwise }
+}
+
 // A HOP passes over a label that thread `j` has left behind or that it is not to reach now.
 fn hop(state: &SeqState, j: Thread, t: Label, to: Address) -> Act
     ensures { result ≡ hopping state.now j t to }
@@ -41,63 +49,24 @@ fn hop(state: &SeqState, j: Thread, t: Label, to: Address) -> Act
 pub(crate) fn act_of<V: Kind>(state: &SeqState, i: Thread, instruction: Instruction) -> Act
     ensures { result ≡ said_act V.meaning i.0 state.now instruction }
 {
+    let value = |p: Place| state.value::<V>(i, p);
     match instruction {
         Instruction::Set { d, c } => Act::Write(d, c),
-        Instruction::Copy { d, a } => Act::Write(d, state.value::<V>(i, a)),
-        Instruction::Sum { d, a, b } => Act::Write(
-            d,
-            V::sum(state.value::<V>(i, a), state.value::<V>(i, b)),
-        ),
-        Instruction::Difference { d, a, b } => Act::Write(
-            d,
-            V::difference(state.value::<V>(i, a), state.value::<V>(i, b)),
-        ),
-        Instruction::Less { d, a, b } => Act::Write(
-            d,
-            V::less(state.value::<V>(i, a), state.value::<V>(i, b)),
-        ),
-        Instruction::Same { d, a, b } => Act::Write(
-            d,
-            V::same(state.value::<V>(i, a), state.value::<V>(i, b)),
-        ),
+        Instruction::Copy { d, a } => Act::Write(d, value(a)),
+        Instruction::Sum { d, a, b } => Act::Write(d, V::sum(value(a), value(b))),
+        Instruction::Difference { d, a, b } => Act::Write(d, V::difference(value(a), value(b))),
+        Instruction::Less { d, a, b } => Act::Write(d, V::less(value(a), value(b))),
+        Instruction::Same { d, a, b } => Act::Write(d, V::same(value(a), value(b))),
         Instruction::Jump { to } => Act::To(true, to),
-        Instruction::Branch { a, to } => if V::holds(state.value::<V>(i, a)) {
-            Act::On(true)
-        } else {
-            Act::To(true, to)
-        },
-        Instruction::Assume { a } => if V::holds(state.value::<V>(i, a)) {
-            Act::On(true)
-        } else {
-            Act::Stop
-        },
-        Instruction::Assert { a } => if V::holds(state.value::<V>(i, a)) {
-            Act::On(true)
-        } else {
-            Act::Fail
-        },
+        Instruction::Branch { a, to } => on_if(V::holds(value(a)), true, Act::To(true, to)),
+        Instruction::Assume { a } => on_if(V::holds(value(a)), true, Act::Stop),
+        Instruction::Assert { a } => on_if(V::holds(value(a)), true, Act::Fail),
         Instruction::Hop { i: j, t, to } => hop(state, j, t, to),
-        Instruction::Guard { t } => if t.0 <= state.word(STOP_AT) {
-            Act::On(false)
-        } else {
-            Act::Stop
-        },
+        Instruction::Guard { t } => on_if(t.0 <= state.word(STOP_AT), false, Act::Stop),
         Instruction::Return => Act::Back,
-        Instruction::Must { w, v } => if state.word(w) == v {
-            Act::On(false)
-        } else {
-            Act::Fail
-        },
-        Instruction::MustNot { w, v } => if state.word(w) == v {
-            Act::Fail
-        } else {
-            Act::On(false)
-        },
-        Instruction::Need { w, v } => if state.word(w) == v {
-            Act::On(whole(w))
-        } else {
-            Act::Stop
-        },
+        Instruction::Must { w, v } => on_if(state.word(w) == v, false, Act::Fail),
+        Instruction::MustNot { w, v } => on_if(state.word(w) != v, false, Act::Fail),
+        Instruction::Need { w, v } => on_if(state.word(w) == v, whole(w), Act::Stop),
         Instruction::Put { w, v } => Act::Mark(w, v),
         Instruction::Slot { .. }
         | Instruction::Guess { .. }

@@ -9,7 +9,6 @@ use hosts::known::KnownKind;
 use hosts::problem::Problem;
 use hosts::told::tell;
 use kinds::{Kind, Truth, Words};
-use records::refusal::Refusal;
 use std::alloc::Global;
 use walks::counts::Counts;
 
@@ -38,8 +37,5 @@ pub extern "C" fn survey(heap: Global, file: &[u8], rounds: u32, b: u32, out: &m
     ensures told { Survey file.now rounds b result out.new out.old }
     ensures rest { drop 12 out.new ≡ drop 12 out.old }
 {
-    if out.len() < 12 {
-        return u32::from(Refusal::BufferShort.number());
-    }
-    tell(out, counted_by_kind(heap, file, rounds, b))
+    tell(out, || counted_by_kind(heap, file, rounds, b))
 }

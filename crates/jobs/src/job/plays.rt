@@ -1,7 +1,7 @@
-// Play and Drive: a run over one list of numbers.
+// Play: a run of the thread machine.
 ghost use Rattle.std.specs.Prelude.{◌≡◌};
 ghost use Rattle.jobs.specs.Keeps.{Keeps};
-ghost use Rattle.jobs.specs.Models.{Model, lent_as, cell_count, play_reply, drive_reply, LawfulPlay, LawfulDrive};
+ghost use Rattle.jobs.specs.Models.{Model, lent_as, cell_count, play_reply, LawfulPlay};
 
 use crate::job::{Job, Stage};
 use kinds::Kind;
@@ -32,22 +32,6 @@ impl<V: Kind> Job<V> {
         match self.stage {
             Stage::Empty | Stage::Loaded => Err(Refusal::NotTranslated),
             Stage::Translated => self.threads.play(numbers, counts, cells),
-        }
-    }
-
-    // Drive: a run of the sequential program over a guess list.
-    pub fn drive(
-        &self,
-        numbers: &[u8],
-        counts: &mut [u8],
-        cells: &mut [u32],
-    ) -> Result<Report, Refusal>
-        ensures answer { (m : Model) → Keeps V.meaning self.now m → lent_as result counts.new cells.new ≡ drive_reply V.meaning m numbers.now counts.old cells.old }
-        ensures lawful { (m : Model) → Keeps V.meaning self.now m → LawfulDrive V.meaning m numbers.now }
-    {
-        match self.stage {
-            Stage::Empty | Stage::Loaded => Err(Refusal::NotTranslated),
-            Stage::Translated => self.sequential.sequence.drive(numbers, counts, cells),
         }
     }
 }
