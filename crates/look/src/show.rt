@@ -128,7 +128,7 @@ impl<V: Kind> fmt::Display for RunText<'_, V> {
             report.read, report.carried
         )?;
         write!(f, "slot counts:")?;
-        for c in self.run.counts.iter().take(read as usize) {
+        for c in self.run.counts.iter().take(usize::from(read)) {
             write!(f, " {c}")?;
         }
         writeln!(f, "")?;

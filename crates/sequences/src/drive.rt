@@ -54,7 +54,7 @@ impl<V: Kind> Sequence<V> {
         ensures value { move_of result ≡ first_move (drop at.0 (guide_of self.now)) }
         ensures below { is_some result ≡ true → at.0 < 257 }
     {
-        self.driver().get(at.0 as usize).copied()
+        self.driver().get(usize::from(at.0)).copied()
     }
 
     // Thread `i`'s section, called at a point.

@@ -77,7 +77,7 @@ impl<'a> Layout<'a> {
         ensures value { (p : Program) (i : ℕ) → result.0 ≡ address_of p i self.now.text.now t.0 }
         ensures near { result.0 < 2 ^ 15 }
     {
-        Address(self.at[t.0 as usize])
+        Address(self.at[usize::from(t.0)])
     }
 
     pub(crate) fn guarded(&self, t: Label) -> bool

@@ -49,7 +49,7 @@ fn behind(at: usize, act: Act) -> ControlFlow<Result<(), Stop>, usize>
 {
     match act {
         Act::On(_) | Act::Write(_, _) | Act::Mark(_, _) => ControlFlow::Continue(at + 1),
-        Act::To(_, to) => ControlFlow::Continue(to.0 as usize),
+        Act::To(_, to) => ControlFlow::Continue(usize::from(to.0)),
         Act::Back => ControlFlow::Break(Ok(())),
         Act::Fail => ControlFlow::Break(Err(Stop::Failed)),
         Act::Stop => ControlFlow::Break(Err(Stop::Cut)),

@@ -62,7 +62,7 @@ impl SeqState {
     fn local<V: Kind>(&self, i: Thread, n: u8) -> u32
         ensures { result ≡ slice_index_or (locals_of self.now i.0) n V.meaning.fresh }
     {
-        match self.locals.get(i.0 as usize) {
+        match self.locals.get(usize::from(i.0)) {
             Some(cells) => item_or(cells, n, V::FRESH),
             None => V::FRESH,
         }
@@ -73,7 +73,7 @@ impl SeqState {
     {
         // No `get_mut`: its contract says nothing of what the slice ends as.
         if i.0 < 8 {
-            set_item(&mut self.locals[i.0 as usize], n, c);
+            set_item(&mut self.locals[usize::from(i.0)], n, c);
         }
     }
 

@@ -145,7 +145,7 @@ fn slots(table: &Table, rounds: u8) -> u16
     ensures value { result ≡ slot_total (view table.now) rounds }
     ensures few { result ≤ 8 * rounds }
 {
-    rounds as u16 * table.threads() as u16
+    u16::from(rounds) * u16::from(table.threads())
 }
 
 // The thread that has slot `q`.
@@ -153,7 +153,7 @@ fn thread_at(table: &Table, q: u16) -> Thread
     requires { 0 < length (view table.now).texts }
     ensures { result.0 ≡ q % length (view table.now).texts }
 {
-    Thread((q % table.threads() as u16) as u8)
+    Thread((q % u16::from(table.threads())) as u8)
 }
 
 // The driver of so many rounds.
