@@ -31,11 +31,6 @@ module _ (out out' : List ℕ) (at at' : ℕ) (bs rest all W : List ℕ) (n : �
       let m = wrote_more out at bs rest (omega (arith, ap length parts)) in
       ((cc), omega (arith, ap length parts))
 
-pub done : (out : List ℕ) (at : ℕ) (all W : List ℕ) (n : ℕ) → all ≡ [] → at + length all ≡ n → wrote out at all ≡ W → (out ≡ W) × (at ≡ n)
-done out at all W n e l w =
-    let z = wrote_none out at in
-    ((cc), omega (arith, ap length e))
-
 -- a record, and bytes behind it
 pub both : (out out₁ out₂ : List ℕ) (at at₁ : ℕ) (r row bs : List ℕ) → r ≡ row → length row ≡ 10 → out₁ ≡ wrote out at r → at₁ ≡ at + 10 → out₂ ≡ wrote out₁ at₁ bs → at + length (row ++ bs) ≤ length out → out₂ ≡ wrote out at (row ++ bs)
 both out out₁ out₂ at at₁ r row bs e l u v w h =
