@@ -10,7 +10,7 @@ use Rattle.sequences.specs.declared.instruction.Instruction.TheVariants as op
 use Rattle.sections.specs.declared.owed.OwedCount.{OwedCount}
 use Rattle.sections.specs.declared.owner.Owner.{Owner}
 use Rattle.sections.specs.declared.owner.Owner.TheVariants as of
-use Rattle.sections.specs.Owed.{end_of, within, open_to, begun_in, added_to, added_in, closed, closed_in}
+use Rattle.sections.specs.Owed.{end_of, within, open_to, begun_in, added_to, added_in, closed_in}
 use Rattle.sections.specs.Rows.{instruction_row, section_row, code_bytes, section_bytes}
 
 length_row : (x : Instruction) → length (instruction_row x) ≡ 10
