@@ -1,6 +1,6 @@
 -- The file of a sequential program as it is written, part by part.
-use Rattle.std.proofs.Common.{◌≡◌, ℕ, ◌+◌, ◌*◌, ◌<◌, ◌≤◌, List, [], ◌++◌, length, get_or, drop, refl, ap, ◌∙◌, arith, length-append}
-use Rattle.std.proofs.lemmas.List.{drop_more, drop_all}
+use Rattle.std.proofs.Common.{◌≡◌, ℕ, ◌+◌, ◌*◌, ◌<◌, ◌≤◌, List, ◌++◌, length, get_or, drop, refl, ap, ◌∙◌, arith, length-append}
+use Rattle.std.proofs.lemmas.List.{drop_more}
 use Rattle.records.specs.Wrote.{wrote}
 use Rattle.records.proofs.Writes.{advance}
 use Rattle.tables.specs.declared.text.ThreadText.{ThreadText}
@@ -18,9 +18,6 @@ use Rattle.sections.proofs.Sections.{length_section}
 module _ (S : ℕ → List Instruction) (ts : List ThreadText) (i : ℕ) where
   pub sections_more : (t : ThreadText) (code : List Instruction) → i < length ts → t ≡ get_or ts i no_text → code ≡ S i → sections_from S i (drop i ts) ≡ section_bytes (of.Thread (thread i) t.locals) code ++ sections_from S (i + 1) (drop (i + 1) ts)
   sections_more t code h et ec = let d = drop_more ts i no_text h in cc
-
-  pub sections_all : length ts ≤ i → sections_from S i (drop i ts) ≡ []
-  sections_all h = ap (sections_from S i) (drop_all i ts h)
 
   -- how many bytes they have
   pub length_more : i < length ts → length (sections_from S i (drop i ts)) ≡ 10 + 10 * length (S i) + length (sections_from S (i + 1) (drop (i + 1) ts))

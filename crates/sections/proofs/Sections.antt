@@ -1,5 +1,5 @@
 -- A section as it is written: begun, filled and closed.
-use Rattle.std.proofs.Common.{◌≡◌, ℕ, ◌+◌, ◌*◌, ◌<◌, ◌≤◌, true, List, [], ◌∷◌, ◌++◌, length, get_or, drop, Ok, Result, sym, refl, ap, ◌∙◌, append_assoc, arith, length-append, length-drop, rules, lt-ltb, le-leb}
+use Rattle.std.proofs.Common.{◌≡◌, ℕ, ◌+◌, ◌*◌, ◌<◌, ◌≤◌, true, List, [], ◌∷◌, ◌++◌, length, get_or, drop, sym, refl, ap, ◌∙◌, append_assoc, arith, length-append, length-drop, rules, lt-ltb, le-leb}
 use Rattle.std.proofs.lemmas.List.{same_lists, places, drop_more, drop_all}
 use Rattle.std.proofs.lemmas.Bool.{cond-true, and_from}
 use Rattle.records.specs.Rows.{four}
@@ -8,10 +8,9 @@ use Rattle.records.proofs.Writes.{wrote_more, wrote_none, advance}
 use Rattle.sequences.specs.declared.instruction.Instruction.{Instruction}
 use Rattle.sequences.specs.declared.instruction.Instruction.TheVariants as op
 use Rattle.sections.specs.declared.owed.OwedCount.{OwedCount}
-use Rattle.sections.specs.declared.owed.Unclosed.{Unclosed}
 use Rattle.sections.specs.declared.owner.Owner.{Owner}
 use Rattle.sections.specs.declared.owner.Owner.TheVariants as of
-use Rattle.sections.specs.Owed.{end_of, within, open_to, begun_in, added_to, added_in, closed, closed_in}
+use Rattle.sections.specs.Owed.{end_of, within, open_to, begun_in, added_to, added_in, closed_in}
 use Rattle.sections.specs.Rows.{instruction_row, section_row, code_bytes, section_bytes}
 
 length_row : (x : Instruction) → length (instruction_row x) ≡ 10
@@ -114,9 +113,3 @@ module _ (s : OwedCount) (out o₀ o o' : List ℕ) (at : ℕ) (own : Owner) (xs
       let was : o ≡ wrote out at (h ++ (four 0 ++ c)) = cc in
       let y : o' ≡ wrote o (at + 6) (four n) = ey ∙ cond-true _ _ _ shut ∙ ap (λ a. wrote o (a + 6) (four s.count)) starts ∙ ap (λ k. wrote o (at + 6) (four k)) counts in
       y ∙ ap (λ u. wrote u (at + 6) (four n)) was ∙ v ∙ ap (λ u. wrote out at u) (sym g)
-
-  pub ends_at : (e : ℕ) → ◌≡◌ {A = Result ℕ Unclosed} (Ok e) (closed s (length o)) → e ≡ at + (10 + 10 * length xs)
-  ends_at e q =
-      let f = q ∙ cond-true _ _ _ shut in
-      let g : e ≡ end_of s = cc f in
-      omega arith

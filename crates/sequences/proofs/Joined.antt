@@ -81,9 +81,6 @@ pub record Written (p : Program) (n : ℕ) (xs : List Instruction) (ts : List Pa
   pub many : length ts ≡ n
   pub parts : (j : ℕ) → j < n → get_or ts j no_part ≡ part p j
 
-pub written_none : (p : Program) (xs : List Instruction) (ts : List Part) → xs ≡ [] → ts ≡ [] → Written p 0 xs ts
-written_none p xs ts ex et = record { code = ex; many = ap length et; parts = λ j h. absurd (omega arith) }
-
 module _ {X : Type 0} where
   -- a piece between two others
   between : (xs ys zs : List X) → take (length ys) (drop (length xs) (xs ++ (ys ++ zs))) ≡ ys

@@ -1,9 +1,5 @@
 -- One more instruction of the driver.
-use Rattle.std.proofs.Common.{◌≡◌, ℕ, suc, ◌+◌, ◌-◌, ◌<◌, ◌≤◌, Bool, true, false, cond, eqb, List, length, Some, None, Option, is_some, Bor, MatchOption, drop, sym, refl, ap, ◌∙◌, arith, Ok, Err}
-use Rattle.std.specs.List.{HoldsAt}
-use Rattle.std.specs.Option.{option_copied}
-use Rattle.std.proofs.lemmas.Bool.{false≢true}
-use Rattle.std.proofs.lemmas.List.{drop_more, drop_all}
+use Rattle.std.proofs.Common.{◌≡◌, ℕ, suc, ◌+◌, ◌-◌, ◌<◌, ◌≤◌, Bool, true, false, cond, eqb, List, drop, sym, refl, ap, ◌∙◌, arith, Ok, Err}
 use Rattle.std.specs.declared.ops.ControlFlow.{ControlFlow}
 use Rattle.std.specs.declared.ops.ControlFlow.TheVariants.{Continue, Break}
 use Rattle.kinds.specs.Meaning.{Meaning}
@@ -15,22 +11,10 @@ use Rattle.sequences.specs.declared.instruction.Instruction.{Instruction}
 use Rattle.sequences.specs.declared.point.SeqPoint.{SeqPoint}
 use Rattle.sequences.specs.declared.state.SeqState.{SeqState}
 use Rattle.sequences.specs.Acts.{Called, call}
-use Rattle.sequences.specs.Drives.{Sequence, Moved, moved, Move, slot, guess, enter, save, finish, stray, move, move_of, first_move, returned, driven, proceed}
+use Rattle.sequences.specs.Drives.{Sequence, Moved, moved, Move, slot, guess, enter, save, finish, stray, first_move, returned, driven, proceed}
 use Rattle.sequences.specs.States.{word}
 use Rattle.sequences.specs.Strides.{Strode, strode, entered, stride}
 use Rattle.sequences.specs.Words.{active}
-
--- the instruction at an address, as `get` finds it
-abbrev Got : ℕ → List Instruction → Option (Bor Instruction) → Type 0
-Got h xs o = MatchOption o (length xs ≤ h) (λ x. (h < length xs) × HoldsAt (λ y. x.now ≡ y) xs h)
-
-pub first_got : (guide : List Instruction) (h : ℕ) (xs : List Instruction) (o : Option (Bor Instruction)) → xs ≡ guide → Got h xs o → move_of (option_copied o) ≡ first_move (drop h guide)
-first_got guide h xs None e l = sym (ap first_move (drop_all h xs l)) ∙ ap (λ ys. first_move (drop h ys)) e
-first_got guide h xs (Some x) e l = ap move (l.1 x.now) ∙ sym (ap first_move (drop_more xs h x.now l.0)) ∙ ap (λ ys. first_move (drop h ys)) e
-
-pub got_below : (h : ℕ) (xs : List Instruction) (o : Option (Bor Instruction)) (n : ℕ) → Got h xs o → length xs ≤ n → is_some (option_copied o) ≡ true → h < n
-got_below h xs None n l few e = absurd (false≢true e)
-got_below h xs (Some x) n l few e = omega (arith, l.0)
 
 -- what an instruction makes of the run: `more` is the run from another address
 abbrev pub onward : (ℕ → ℕ → SeqState → Moved) → SeqPoint → ControlFlow Turn ℕ → Moved

@@ -1,9 +1,9 @@
 -- One more piece of a section, and of the driver.
-use Rattle.std.proofs.Common.{◌≡◌, ℕ, zero, suc, ◌+◌, ◌-◌, ◌*◌, ◌%◌, ◌<◌, ◌≤◌, min, List, [], ◌∷◌, ◌++◌, map, length, get_or, take, drop, sym, ap, ◌∙◌, subst, append_assoc, mul-zero, arith}
+use Rattle.std.proofs.Common.{◌≡◌, ℕ, suc, ◌+◌, ◌-◌, ◌*◌, ◌%◌, ◌<◌, ◌≤◌, min, List, [], ◌∷◌, ◌++◌, map, length, get_or, take, drop, sym, ap, ◌∙◌, subst, append_assoc, arith}
 use native.Mathlib.Nat.{min-eq_left}
 use Rattle.std.specs.List.{AllByRecursion, range_with_len}
 use Rattle.std.proofs.ByRecursion.{All-get_or}
-use Rattle.std.proofs.lemmas.List.{drop_more, drop_all}
+use Rattle.std.proofs.lemmas.List.{drop_more}
 use Rattle.records.specs.declared.statement.Statement.{Statement}
 use Rattle.tables.specs.Program.{Program}
 use Rattle.sequences.specs.declared.instruction.Instruction.{Instruction}
@@ -11,13 +11,8 @@ use Rattle.sequences.specs.declared.instruction.Instruction.TheVariants as op
 use Rattle.sequences.specs.declared.instruction.Word.{Word}
 use Rattle.sequences.specs.Code.{at, thread, label, word, inner, guarded, guards, past, behind, driver_from}
 use Rattle.sequences.specs.Writes.{Low, beyond, label_code, slot_code}
-use Rattle.records.proofs.Rooms.{room_more, room_left}
+use Rattle.records.proofs.Rooms.{room_left}
 use Rattle.sequences.proofs.Ways.{past_guards}
-
--- a HOP, a statement's instructions, and a guard
-pub room_label : {X : Type 0} (n : ℕ) (old m1 m2 m3 : List X) (h : X) (xs gs : List X) → m1 ≡ take n (old ++ h ∷ []) → m2 ≡ take n (m1 ++ xs) → m3 ≡ take n (m2 ++ gs) → m3 ≡ take n (old ++ (h ∷ (xs ++ gs)))
-room_label n old m1 m2 m3 h xs gs e1 e2 e3 =
-    room_more n old m2 m3 (h ∷ xs) gs (room_more n old m1 m2 (h ∷ []) xs e1 e2) e3
 
 module _ (p : Program) (i : ℕ) (text : List Statement) (A : ℕ → ℕ) where
   abbrev rest : List Statement → ℕ → List Instruction
@@ -44,9 +39,6 @@ module _ (p : Program) (i : ℕ) (text : List Statement) (A : ℕ → ℕ) where
       let there = subst (λ (xs : List Statement). Low (get_or xs l z)) (sym e) (All-get_or Low text l z h low) in
       section_more n l z old new h (subst (λ (xs : List Statement). new ≡ take n (old ++ label_code p i text A l (get_or xs l z))) e (w there))
 
-  pub section_ends : (n l : ℕ) (old new : List Instruction) → length text ≤ l → new ≡ take n (old ++ op.Return ∷ []) → new ≡ take n (old ++ rest (drop l text) l)
-  section_ends n l old new b e = e ∙ ap (λ xs. take n (old ++ rest xs l)) (sym (drop_all l text b))
-
 module _ (p : Program) (t : ℕ) where
   abbrev pub driver_left : ℕ → ℕ → List Instruction
   driver_left n q = driver_from p (map (λ q. q % t) (range_with_len q (n - q))) (4 * q)
@@ -60,20 +52,10 @@ module _ (p : Program) (t : ℕ) where
       ∙ ap (λ a. take room (old ++ (slot_code p (q % t) (4 * q) ++ driver_from p (map (λ q. q % t) (range_with_len (q + 1) (n - (q + 1)))) a))) h
       ∙ ap (λ y. take room (old ++ driver_from p (map (λ q. q % t) (range_with_len q y)) (4 * q))) (sym m)
 
-  pub driver_start : (n : ℕ) → driver_left n 0 ≡ driver_from p (map (λ q. q % t) (range_with_len 0 n)) 0
-  driver_start n =
-      let m : n - 0 ≡ n = omega arith in
-      ap (λ y. driver_from p (map (λ q. q % t) (range_with_len 0 y)) 0) m
-
   pub driver_ends : (n q : ℕ) → n ≤ q → driver_left n q ≡ op.End ∷ []
   driver_ends n q b =
       let m : n - q ≡ 0 = omega arith in
       ap (λ y. driver_from p (map (λ q. q % t) (range_with_len q y)) (4 * q)) m
-
--- a slot that exists has a thread
-pub threads_some : (a b q : ℕ) → q < a * b → 0 < b
-threads_some a zero q h = absurd (omega (arith, mul-zero a))
-threads_some a (suc b) q h = omega arith
 
 -- a word whose number is low enough is the one that has it
 pub word_low : (w : Word) (n : ℕ) → w.0 ≡ min n 255 → n ≤ 255 → w ≡ word n

@@ -1,5 +1,5 @@
 -- What is said, from what the calls answer.
-use Rattle.std.proofs.Common.{◌≡◌, ℕ, ◌<◌, ◌≤◌, Bool, true, false, ◌&&◌, leb, List, [], ◌∷◌, length, get_or, drop, is_ok, IfOk, Ok, Err, Result, sym, refl, ap, ◌∙◌, inl, inr, arith}
+use Rattle.std.proofs.Common.{◌≡◌, ℕ, ◌≤◌, Bool, true, false, ◌&&◌, leb, List, length, get_or, drop, is_ok, IfOk, Ok, Err, Result, sym, refl, ap, ◌∙◌, inl, inr, arith}
 use Rattle.std.proofs.lemmas.Bool.{cases_lt, le-leb, lt-leb, cond-true, cond-false}
 use Rattle.hosts.specs.Knowns.{kind_of}
 use Rattle.kinds.specs.Meaning.{Meaning}
@@ -8,7 +8,7 @@ use Rattle.records.specs.declared.refusal.Refusal.{Refusal}
 use Rattle.records.specs.declared.refusal.Refusal.TheVariants.{BufferShort, Rounds}
 use Rattle.records.specs.Lines.{Bytes}
 use Rattle.records.specs.Numbers.{number}
-use Rattle.records.specs.Wrote.{counted, filled}
+use Rattle.records.specs.Wrote.{counted}
 use Rattle.questions.specs.Answer.{Answer, accepted}
 use Rattle.questions.specs.Question.{question}
 use Rattle.tables.specs.Program.{decoded}
@@ -71,23 +71,6 @@ module _ (k : Meaning) (r : ℕ) (f : List ℕ) (bytes : Bytes f) where
   carried_few = load_few (question k f) refl
 
 module _ (out out₁ : List ℕ) where
-  -- the bytes were written
-  pub wrote_all : (t : Taken) (n : ℕ) → ◌≡◌ {A = Result ℕ Refusal} (Ok n) (answered out t) → out₁ ≡ left_in out t → (◌≡◌ {A = Result ℕ Refusal} (Ok n) (counted out (said out t))) × (out₁ ≡ filled out (said out t)) × (n ≤ length out)
-  wrote_all (Ok bs) n a b =
-      elim (cases_lt (length out) (length bs)) [
-        | inl h ↦
-            let e = a ∙ cond-false _ _ _ (lt-leb (length bs) (length out) h) in
-            let z : ◌≡◌ {A = ℕ} 0 1 = cc e in
-            absurd (omega arith)
-        | inr h ↦
-            let l = le-leb (length bs) (length out) h in
-            let s : said out (Ok bs) ≡ bs = cond-true _ _ _ l in
-            let e = a ∙ cond-true _ _ _ l in
-            let m : n ≡ length bs = cc e in
-            (a ∙ ap (counted out) (sym s), b ∙ ap (filled out) (sym s), omega arith)
-      ]
-  wrote_all (Err e) n a b = let z : ◌≡◌ {A = ℕ} 0 1 = cc a in absurd (omega arith)
-
   -- a refusal, with nothing written
   pub wrote_none : (t : Taken) (e : Refusal) → ◌≡◌ {A = Result ℕ Refusal} (Err e) (answered out t) → out₁ ≡ left_in out t → (out₁ ≡ out) × (two_digits (number e) ≡ said out t)
   wrote_none (Ok bs) e a b =
@@ -129,8 +112,3 @@ module _ (out bs : List ℕ) where
 
 pub taken_by : (input f : List ℕ) (k : ℕ) → k ≡ get_or input 0 0 → f ≡ drop 1 input → carried (kind_of f) k f ≡ taken input
 taken_by input f k ek ef = ap (λ r. carried (kind_of f) r f) ek ∙ ap (λ g. carried (kind_of g) (get_or input 0 0) g) ef
-
--- the input with nothing in it
-pub nothing_in : (xs : List ℕ) → length xs < 1 → (◌≡◌ {A = ℕ} 0 (get_or xs 0 0)) × (xs ≡ drop 1 xs)
-nothing_in [] h = (refl, refl)
-nothing_in (x ∷ xs) h = absurd (omega arith)

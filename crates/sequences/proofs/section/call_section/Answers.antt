@@ -3,9 +3,6 @@ use Rattle.sequences.specs.Passages.{counts, tally}
 use Rattle.sequences.proofs.Execs.{exec_after, exec_past, exec_none, tally_most}
 use Rattle.sequences.proofs.section.call_section.Goals as goal
 
-pub tally-count-requires : goal.tally-count-requires
-tally-count-requires g c = omega (arith, c.loop-step.invariant.1)
-
 pub returns-in-Break : goal.returns-in-Break
 returns-in-Break g c =
     let n = c.tally-count.ensures ∙ ap (λ b. tally b c.loop-step.count) c.counts.ensures in

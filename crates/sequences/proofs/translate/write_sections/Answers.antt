@@ -2,11 +2,8 @@ use Rattle.std.proofs.Common.{◌<◌, length, ap, ◌∙◌, arith}
 use Rattle.tables.specs.Tables.{view}
 use Rattle.sequences.specs.Sequences.{part_between}
 use Rattle.sequences.specs.Writes.{Low}
-use Rattle.sequences.proofs.Joined.{written_none, written_more, written_sections, own_all}
+use Rattle.sequences.proofs.Joined.{written_more, written_sections, own_all}
 use Rattle.sequences.proofs.translate.write_sections.Goals as goal
-
-pub loop-i-init : goal.loop-i-init
-loop-i-init c = λ _. written_none _ _ _ c.clear.ensures c.clear-2.ensures
 
 pub loop-i-preserved : goal.loop-i-preserved
 loop-i-preserved c =

@@ -2,22 +2,8 @@ use Rattle.std.proofs.Common.{◌<◌, ◌≤◌, ◌++◌, length, take, sym, a
 use Rattle.tables.specs.Tables.{view}
 use Rattle.tables.specs.Slots.{slot_total}
 use Rattle.sequences.proofs.Drivers.{driver_few}
-use Rattle.sequences.proofs.Writings.{driver_start, driver_more, driver_ends, threads_some}
+use Rattle.sequences.proofs.Writings.{driver_more, driver_ends}
 use Rattle.sequences.proofs.writes.write_driver.Goals as goal
-
-pub loop-q-init : goal.loop-q-init
-loop-q-init c =
-    let p = view c.args.table.now in
-    ap (λ xs. take 257 (c.args.driver.now ++ xs)) (driver_start p (length p.texts) (slot_total p c.args.rounds))
-
-pub thread_at-requires : goal.thread_at-requires
-thread_at-requires c =
-    let p = view c.args.table.now in
-    let l : c.loop-q.q < slot_total p c.args.rounds = omega (arith, c.slots-q-end.ensures.value) in
-    threads_some c.args.rounds (length p.texts) c.loop-q.q l
-
-pub write_slot-requires : goal.write_slot-requires
-write_slot-requires c = omega (arith, c.slots-q-end.ensures.few)
 
 pub loop-q-preserved : goal.loop-q-preserved
 loop-q-preserved c =

@@ -1,4 +1,4 @@
-use Rattle.std.proofs.Common.{◌≡◌, ◌+◌, get_or, drop, is_ok, refl, ap, ◌∙◌, arith}
+use Rattle.std.proofs.Common.{◌≡◌, ◌+◌, get_or, drop, is_ok, ap, ◌∙◌, arith}
 use Rattle.std.proofs.lemmas.List.{get_or-drop}
 use Rattle.hosts.specs.Knowns.{kind_of}
 use Rattle.records.specs.Lines.{Bytes}
@@ -6,24 +6,8 @@ use Rattle.records.specs.Numbers.{number}
 use Rattle.records.specs.Wrote.{counted, filled}
 use Rattle.sections.specs.Digits.{two_digits}
 use Rattle.takeaways.specs.Replies.{taken, answered, left_in}
-use Rattle.takeaways.proofs.Replying.{carried_few, wrote_all, wrote_none, said_whole, counted_within, counted_some, taken_by}
+use Rattle.takeaways.proofs.Replying.{carried_few, wrote_none, said_whole, counted_within, counted_some, taken_by}
 use Rattle.takeaways.proofs.reply.reply.Goals as goal
-
-pub returns-in-Ok : goal.returns-in-Ok
-returns-in-Ok c =
-    let input = c.args.input.now in
-    let out = c.args.out.now in
-    let t = taken input in
-    let e = taken_by input c.split-k.result.1.now c.split-k.result.0 c.split-k.ensures.rounds c.split-k.ensures.file in
-    let w = wrote_all out c.carry_by_kind.new.out t c.in-Ok.n (c.in-Ok.ensures.answer ∙ ap (answered out) e) (c.carry_by_kind.ensures.after ∙ ap (left_in out) e) in
-    let bytes : Bytes (drop 1 input) = λ j. omega (arith, c.type_inv.input (1 + j), get_or-drop 1 input j 0) in
-    record {
-      answer = w.0;
-      after = w.1;
-      whole = said_whole out out t (carried_few (kind_of (drop 1 input)) (get_or input 0 0) (drop 1 input) bytes);
-      within = w.2;
-      some = λ h. refl;
-    }
 
 pub returns-in-Err : goal.returns-in-Err
 returns-in-Err c =

@@ -1,7 +1,7 @@
 use Rattle.std.proofs.Common.{◌<◌, length, ap, arith}
 use Rattle.sequences.specs.Sequences.{sections_of}
 use Rattle.tables.specs.Tables.{view}
-use Rattle.sections.proofs.Emits.{length_more, sections_all}
+use Rattle.sections.proofs.Emits.{length_more}
 use Rattle.sections.proofs.emit.File.sections_len.Goals as goal
 
 pub loop-i-preserved : goal.loop-i-preserved
@@ -13,12 +13,3 @@ loop-i-preserved g c =
     let l = length_more S ts i h in
     let e = ap length c.section.ensures.value in
     (omega (arith, c.loop-i.invariant.0), omega (arith, c.loop-i.invariant.1, c.section.ensures.few))
-
-pub returns : goal.returns
-returns g c =
-    let S = sections_of c.args.self.now.sequence.now in
-    let ts = (view c.args.self.now.table.now).texts in
-    record {
-      few = omega (arith, c.loop-i.invariant.1, c.threads-i-end.ensures.few);
-      value = omega (arith, c.loop-i.invariant.0, ap length (sections_all S ts c.loop-i.i (omega (arith, c.threads-i-end.ensures.value))));
-    }

@@ -11,22 +11,12 @@ use Rattle.sections.proofs.Emits.{length_emitted, four_writes}
 use Rattle.sections.proofs.Sections.{length_section}
 use Rattle.sections.proofs.emit.File.write.Goals as goal
 
-pub save_cells-driver-requires : goal.save_cells-driver-requires
-save_cells-driver-requires g c =
+pub write_section-threads-requires-clause-room : goal.write_section-threads-requires-clause-room
+write_section-threads-requires-clause-room g c =
     let k = g.V.Kind.meaning.byte in
     let p = view c.args.self.now.table.now in
     let s = c.args.self.now.sequence.now in
-    omega (arith, length_emitted k p c.args.self.now.rounds (guide_of s) (sections_of s), length_cells 0 p.cells, c.requires, c.put-cells.ensures.next, c.put-cells.auto.out)
-
-pub write_section-threads-requires : goal.write_section-threads-requires
-write_section-threads-requires g c =
-    let k = g.V.Kind.meaning.byte in
-    let p = view c.args.self.now.table.now in
-    let s = c.args.self.now.sequence.now in
-    record {
-      room = omega (arith, length_emitted k p c.args.self.now.rounds (guide_of s) (sections_of s), length_cells 0 p.cells, ap length c.driver.ensures.value, c.requires, c.put-cells.ensures.next, c.put-cells.auto.out, c.save_cells-driver.ensures.next, c.save_cells-driver.auto.out);
-      few = c.driver.ensures.few;
-    }
+    omega (arith, length_emitted k p c.args.self.now.rounds (guide_of s) (sections_of s), length_cells 0 p.cells, ap length c.driver.ensures.value, c.requires, c.put-cells.ensures.next, c.put-cells.auto.out, c.save_cells-driver.ensures.next, c.save_cells-driver.auto.out)
 
 pub write_sections-end-requires : goal.write_sections-end-requires
 write_sections-end-requires g c =

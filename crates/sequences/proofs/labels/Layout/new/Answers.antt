@@ -1,13 +1,9 @@
-use Rattle.std.proofs.Common.{◌≡◌, ◌+◌, ◌-◌, ◌<◌, ◌≤◌, length, drop, refl, ap, ◌∙◌, arith, rules, length-set}
+use Rattle.std.proofs.Common.{◌≡◌, ◌+◌, ◌-◌, ◌<◌, ◌≤◌, length, drop, ap, ◌∙◌, arith, rules, length-set}
 use Rattle.std.proofs.lemmas.List.{length-drop, length-take-le}
 use borrow.Rule.Slice.PartMut.{put_mid}
 use Rattle.std.proofs.ByRecursion.{All-set}
-use Rattle.states.proofs.Codes.{all_replicate}
-use Rattle.sequences.proofs.Ways.{found_none, found_more, found_all, near_all, filled}
+use Rattle.sequences.proofs.Ways.{found_more, found_all, near_all, filled}
 use Rattle.sequences.proofs.labels.Layout.new.Goals as goal
-
-pub loop-l-init : goal.loop-l-init
-loop-l-init c = ((λ p i. found_none p i c.args.text.now _ refl), omega arith, refl, all_replicate (λ a. a ≤ 1275) 256 0 (omega arith))
 
 pub loop-l-preserved : goal.loop-l-preserved
 loop-l-preserved c =
