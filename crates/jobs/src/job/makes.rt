@@ -70,7 +70,7 @@ impl<V: Kind> Job<V> {
     pub fn translate(&mut self, rounds: u32) -> Result<(), Refusal>
         ensures { (m : Model) → Keeps V.meaning self.old m → (result ≡ translate_answer m rounds) × Keeps V.meaning self.new (next V.meaning m (translate rounds)) }
     {
-        if self.stage == Stage::Empty {
+        if let Stage::Empty = self.stage {
             return Err(Refusal::NotLoaded);
         }
         self.threads.set_rounds(rounds)?;
