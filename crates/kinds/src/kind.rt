@@ -11,7 +11,6 @@ pub trait Kind {
     // What a local cell holds at the start of a run.
     const FRESH: u32;
 
-    // The two constants for contracts, which cannot name those of a type parameter. The check proves them equal.
     ghost BYTE: { ℕ };
 
     ghost FRESH: { ℕ };

@@ -27,21 +27,21 @@ impl Kind for Truth {
 
     // a or b
     fn sum(a: u32, b: u32) -> u32 {
-        u32::from(a % 2 == 1 || b % 2 == 1)
+        (a % 2 == 1 || b % 2 == 1) as u32
     }
 
     // a and not b
     fn difference(a: u32, b: u32) -> u32 {
-        u32::from(a % 2 == 1 && b % 2 != 1)
+        (a % 2 == 1 && b % 2 != 1) as u32
     }
 
     // b and not a
     fn less(a: u32, b: u32) -> u32 {
-        u32::from(b % 2 == 1 && a % 2 != 1)
+        (b % 2 == 1 && a % 2 != 1) as u32
     }
 
     fn same(a: u32, b: u32) -> u32 {
-        u32::from(a % 2 == b % 2)
+        (a % 2 == b % 2) as u32
     }
 
     fn holds(a: u32) -> bool {

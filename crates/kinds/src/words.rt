@@ -35,11 +35,11 @@ impl Kind for Words {
 
     // Adding 2^31 turns the order of two's complement numbers into that of unsigned ones.
     fn less(a: u32, b: u32) -> u32 {
-        u32::from(a.wrapping_add(0x8000_0000) < b.wrapping_add(0x8000_0000))
+        (a.wrapping_add(0x8000_0000) < b.wrapping_add(0x8000_0000)) as u32
     }
 
     fn same(a: u32, b: u32) -> u32 {
-        u32::from(a == b)
+        (a == b) as u32
     }
 
     fn holds(a: u32) -> bool {

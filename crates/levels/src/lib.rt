@@ -38,11 +38,11 @@ impl Kind for Level {
     }
 
     fn less(a: u32, b: u32) -> u32 {
-        u32::from(a % 4 < b % 4)
+        (a % 4 < b % 4) as u32
     }
 
     fn same(a: u32, b: u32) -> u32 {
-        u32::from(a % 4 == b % 4)
+        (a % 4 == b % 4) as u32
     }
 
     fn holds(a: u32) -> bool {

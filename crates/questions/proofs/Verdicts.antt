@@ -2,7 +2,7 @@
 use Rattle.std.proofs.Common.{◌≡◌, ℕ, Bool, true, false, Ok, Err, refl, ap, ◌∙◌, arith}
 use Rattle.records.specs.declared.refusal.RecordError.{RecordError}
 use Rattle.records.specs.declared.refusal.Refusal.{Refusal}
-use Rattle.records.specs.Verdict.{Verdict, fine, asked, then}
+use Rattle.records.specs.Verdict.{Verdict, fine, bad, asked, then}
 
 pub never : {X : Type 0} (e : RecordError) → ◌≡◌ {A = Verdict} (Err e) fine → X
 never e q = let z : ◌≡◌ {A = ℕ} 0 1 = cc in absurd (omega arith)
@@ -17,3 +17,6 @@ from_then (Err x) v e = never x e
 
 pub to_asked : (g : Bool) (why : Refusal) (m : ℕ) (v : Verdict) → g ≡ true → v ≡ fine → asked g why m v ≡ fine
 to_asked g why m v e h = ap (λ b. asked b why m v) e ∙ h
+
+pub asked_false : (g : Bool) (why : Refusal) (m : ℕ) (v : Verdict) → g ≡ false → asked g why m v ≡ bad why m
+asked_false g why m v e = ap (λ b. asked b why m v) e

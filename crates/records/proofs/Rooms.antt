@@ -1,5 +1,6 @@
 -- Lists that are cut at the end of their room.
-use Rattle.std.proofs.Common.{◌≡◌, ℕ, zero, suc, List, [], ◌∷◌, ◌++◌, take, refl, ap, ◌∙◌, append_assoc}
+use Rattle.std.proofs.Common.{◌≡◌, ℕ, zero, suc, ◌+◌, ◌<◌, ◌≤◌, List, [], ◌∷◌, ◌++◌, length, take, slice_index_or, sym, refl, ap, ◌∙◌, append_assoc, append-nil}
+use Rattle.std.proofs.lemmas.List.{take_all, take_more}
 
 module _ {X : Type 0} where
   take_twice : (n : ℕ) (us ys : List X) → take n (take n us ++ ys) ≡ take n (us ++ ys)
@@ -15,3 +16,14 @@ module _ {X : Type 0} where
   -- what is left behind a piece comes to the whole
   pub room_left : (n : ℕ) (old new xs ys : List X) → new ≡ take n (old ++ xs) → take n (new ++ ys) ≡ take n (old ++ (xs ++ ys))
   room_left n old new xs ys e = room_more n old new (take n (new ++ ys)) xs ys e refl
+
+  -- no piece
+  pub room_same : (n : ℕ) (old : List X) → length old ≤ n → old ≡ take n (old ++ [])
+  room_same n old l = sym (ap (take n) (append-nil old) ∙ take_all n old l)
+
+  -- the next item of a piece
+  pub room_next : (n : ℕ) (old now new xs : List X) (i : ℕ) (x : X) → i < length xs → x ≡ slice_index_or xs i x → now ≡ take n (old ++ take i xs) → new ≡ take n (now ++ x ∷ []) → new ≡ take n (old ++ take (i + 1) xs)
+  room_next n old now new xs i x l e en ew =
+      room_more n old now new (take i xs) (x ∷ []) en ew
+      ∙ ap (λ (y : X). take n (old ++ (take i xs ++ y ∷ []))) e
+      ∙ ap (λ l. take n (old ++ l)) (sym (take_more xs i x l))

@@ -1,5 +1,4 @@
-// A list whose memory is reserved when it is made, so that no later call wants any. An ArrayVec would hold its items in
-// place, and a job that is moved would be copied with all of them.
+// A list whose memory is reserved when it is made, so that no later call wants any.
 ghost use Rattle.std.specs.Prelude.{◌≡◌, ◌<◌, ◌≤◌, [], ◌∷◌, ◌++◌, length, take, IfOk};
 
 use std::alloc::{AllocError, Global};
@@ -51,7 +50,6 @@ impl<T: Copy, const N: usize> Reserved<T, N> {
     pub fn extend_from_slice(&mut self, xs: &[T])
         ensures { self.new ≡ take N (self.old ++ xs.now) }
     {
-        // so that the check knows the list's bound before the loop
         let _few = &self.items;
         for x in xs {
             self.push(*x);

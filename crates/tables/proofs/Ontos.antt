@@ -1,12 +1,12 @@
 -- A program grows record by record.
-use Rattle.std.proofs.Common.{◌≡◌, ℕ, suc, ◌+◌, ◌/◌, ◌<◌, ◌≤◌, Bool, true, false, cond, List, [], ◌∷◌, ◌++◌, map, length, drop, filter, sym, refl, ap, ◌∙◌, append_assoc, arith, length-append}
+use Rattle.std.proofs.Common.{◌≡◌, ℕ, suc, ◌+◌, ◌/◌, ◌<◌, ◌≤◌, Bool, true, false, cond, List, [], ◌∷◌, ◌++◌, map, length, drop, filter, sym, refl, ap, ◌∙◌, append_assoc, append-nil, arith, length-append}
 use lib.ListN.{length-map}
 use Rattle.std.proofs.lemmas.Bool.{cond_both}
 use Rattle.tables.specs.declared.text.ThreadText.{ThreadText}
 use Rattle.records.specs.Bodies.{a}
 use Rattle.records.specs.Lines.{line, lines, body, sc, th, st}
 use Rattle.tables.specs.Program.{Program, code, told, text, texts, onto, with_record, behind, decoded}
-use Rattle.questions.proofs.Follows.{lines_more}
+use Rattle.questions.proofs.Follows.{lines_more, lines_all}
 
 push : {X Y : Type 0} (g : X → Y) (x : X) (b : Bool) (ys : List Y) (rest : List X) → ys ++ map g (cond b (x ∷ rest) rest) ≡ cond b (ys ++ g x ∷ []) ys ++ map g rest
 push g x true ys rest = sym (append_assoc ys (g x ∷ []) (map g rest))
@@ -25,6 +25,9 @@ onto_cons p at r rs =
 
 pub onto_more : (p : Program) (at : ℕ) (f : List ℕ) (i : ℕ) → i < length f / 10 → onto p at (drop i (lines f)) ≡ onto (with_record p at (line f i)) (behind at (line f i)) (drop (i + 1) (lines f))
 onto_more p at f i h = ap (onto p at) (lines_more f i h) ∙ onto_cons p at (line f i) (drop (i + 1) (lines f))
+
+pub onto_all : (p : Program) (at : ℕ) (f : List ℕ) (i : ℕ) → length f / 10 ≤ i → onto p at (drop i (lines f)) ≡ p
+onto_all p at f i h = ap (onto p at) (lines_all f i h) ∙ simp append-nil
 
 room : {X Y : Type 0} (g : X → Y) (t : X → Bool) (ys : List Y) (x : X) (xs : List X) → t x ≡ true → length ys < length (ys ++ map g (filter t (x ∷ xs)))
 room g t ys x xs e = rw e (simp length-append (omega arith))

@@ -2,7 +2,7 @@
 use Rattle.std.proofs.Common.{◌≡◌, ℕ, suc, ◌+◌, ◌*◌, ◌<◌, ◌≤◌, List, [], ◌∷◌, ◌++◌, map, length, get_or, take, drop, sym, refl, ap, ◌∙◌, append_assoc, arith, length-append}
 use lib.ListN.{length-map}
 use Rattle.std.specs.List.{AllByRecursion}
-use Rattle.std.proofs.lemmas.List.{drop_more}
+use Rattle.std.proofs.lemmas.List.{drop_more, drop_all}
 use Rattle.records.specs.declared.statement.Statement.{Statement}
 use Rattle.records.specs.declared.statement.Statement.TheVariants.{Set, Copy, Sum, Difference, Less, Same, Jump, Branch, Assume, Assert, Init, Destroy, Lock, Unlock, Create, Join}
 use Rattle.tables.specs.declared.text.ThreadText.{ThreadText}
@@ -15,9 +15,15 @@ use Rattle.records.proofs.Writes.{wrote_more, both}
 pub cells_more : (ns : List ℕ) (i n : ℕ) (r : List ℕ) → i < length ns → r ≡ cell_row i (get_or ns i n) → cell_bytes i ns ≡ r ++ cell_bytes (i + 1) ns
 cells_more ns i n r h q = let d = drop_more ns i n h in cc
 
+pub cells_all : (ns : List ℕ) (i : ℕ) → length ns ≤ i → cell_bytes i ns ≡ []
+cells_all ns i h = ap (λ xs. flat (cell_rows i xs)) (drop_all i ns h)
+
 -- those behind the first j
 pub statements_more : (ss : List Statement) (j : ℕ) (s : Statement) (r : List ℕ) → j < length ss → r ≡ statement_row (get_or ss j s) → own_bytes (drop j ss) ≡ r ++ own_bytes (drop (j + 1) ss)
 statements_more ss j s r h q = let d = drop_more ss j s h in cc
+
+pub statements_all : (ss : List Statement) (j : ℕ) → length ss ≤ j → own_bytes (drop j ss) ≡ []
+statements_all ss j h = ap own_bytes (drop_all j ss h)
 
 flat_append : (xs ys : List (List ℕ)) → flat (xs ++ ys) ≡ flat xs ++ flat ys
 flat_append [] ys = refl
@@ -31,6 +37,9 @@ threads_more ts ss own left i u h p q =
     let x = flat_append (map statement_row own) rest in
     let y = append_assoc (thread_row i (get_or ts i u)) (flat (map statement_row own)) (flat rest) in
     cc
+
+pub threads_all : (ts : List ThreadText) (ss : List Statement) (i : ℕ) → length ts ≤ i → thread_bytes i ts ss ≡ []
+threads_all ts ss i h = ap (λ xs. flat (thread_rows i xs ss)) (drop_all i ts h)
 
 -- a record has ten bytes
 abbrev pub Ten : List ℕ → Type 0

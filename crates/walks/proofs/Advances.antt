@@ -23,6 +23,11 @@ answer_done v n le = ap (λ b. cond b Spent Done) (sym (le-ltb v n le))
 answer_spent : (v n : ℕ) → v < n → Spent ≡ answer_at v n
 answer_spent v n lt = ap (λ b. cond b Spent Done) (sym (lt-ltb v n lt))
 
+-- a visit that found a leaf
+pub one_more : (v : ℕ) (o : Option Ending) → is_some o ≡ true → and_one v o ≡ v + 1
+one_more v None is = absurd (false≢true is)
+one_more v (Some e) is = refl
+
 module _ {P : Type 0} (out : List ℕ → Outcome) (stands : P → List ℕ → Type 0) (w : Walk P) (b : ℕ) where
   -- after x, where i leaves were visited, none is left
   pub runs_out : (x y : Walk P) (i : ℕ) (o : Option Ending) → is_some o ≡ false → visited x.tally ≡ visited w.tally + i → i < b → visited y.tally ≡ and_one (visited x.tally) o → Visited out stands x y o → Advanced out stands w y b Done

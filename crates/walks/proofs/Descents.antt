@@ -1,13 +1,22 @@
--- One level further down.
-use Rattle.std.proofs.Common.{◌≡◌, ℕ, ◌+◌, ◌<◌, ◌≤◌, List, sym, ap, ◌∙◌, subst₂, arith}
+-- One level further down, and that there is room for it.
+use Rattle.std.proofs.Common.{◌≡◌, ℕ, ◌+◌, ◌<◌, ◌≤◌, List, length, sym, ap, ◌∙◌, subst, subst₂, arith}
+use Rattle.std.proofs.lemmas.List.{length-take-le}
 use Rattle.walks.specs.declared.cursor.Cursor.{Cursor}
 use Rattle.walks.specs.declared.outcome.Outcome.{Outcome}
 use Rattle.walks.specs.declared.outcome.Outcome.TheVariants.{Open}
 use Rattle.walks.specs.Cursors.{Placed, PlacedAt, ahead_in, ahead_of, leaf_of}
+use Rattle.walks.specs.Outcomes.{IsOpen}
 use Rattle.walks.specs.Paths.{Levels, levels, points, pushed}
+use Rattle.walks.specs.Runs.{Lawful}
 use Rattle.walks.proofs.Aheads.{ahead_pushed}
 use Rattle.walks.proofs.Levels.{numbers_wide, bounds_wide}
 use Rattle.walks.proofs.Points.{placed_set}
+
+-- a list of 64 numbers is not open
+pub no_room : {P : Type 0} (out : List ℕ → Outcome) → Lawful out → (c : Cursor P) (b : ℕ) → c.depth ≡ 64 → out (leaf_of c) ≡ Open b → ⊥
+no_room out laws c b full opens =
+    let long : length (leaf_of c) ≡ 64 = length-take-le c.depth (levels c).numbers (omega (arith, full, numbers_wide c)) ∙ full in
+    laws.short (leaf_of c) long (subst IsOpen (sym opens) tt)
 
 -- the cursor s, which has the levels of c, with a level pushed
 module _ {P : Type 0} (c s q : Cursor P) (b : ℕ) (same : levels s ≡ levels c) (some : 0 < c.depth) (room : s.depth ≡ 64 → ⊥) (push : levels q ≡ pushed (levels s) b) where

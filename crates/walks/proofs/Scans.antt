@@ -8,6 +8,10 @@ use Rattle.walks.specs.Outcomes.{IsOpen}
 use Rattle.walks.specs.Runs.{Lawful}
 
 module _ (out : List ℕ → Outcome) where
+  pub scan_none : (below : List ℕ → ℕ → List (List ℕ)) (l : List ℕ) (n : ℕ) → scan out below l 0 n ≡ []
+  unfolding scan
+  scan_none below l n = refl
+
   pub scan_at : (below : List ℕ → ℕ → List (List ℕ)) (l : List ℕ) (k n : ℕ) (o : Outcome) → out (l ++ n ∷ []) ≡ o
       → scan out below l (suc k) n ≡ here below (l ++ n ∷ []) (scan out below l k (suc n)) o
   unfolding scan

@@ -3,7 +3,7 @@ use Rattle.records.specs.Lines.{line, sc, th}
 use Rattle.questions.proofs.Follows.{length_lines, lines_at}
 use Rattle.tables.specs.Program.{with_record, behind}
 use Rattle.tables.specs.Tables.{view}
-use Rattle.tables.proofs.Ontos.{cell_room, thread_room, grown, statements_most}
+use Rattle.tables.proofs.Ontos.{cell_room, thread_room, grown, onto_all, statements_most}
 use Rattle.tables.proofs.table.Table.fill.Goals as goal
 
 pub add-first-requires : goal.add-first-requires
@@ -35,3 +35,9 @@ loop-i-preserved c =
       omega arith,
       omega (arith, ap (λ z. length z.statements) after, statements_most p at (line f i) i c.loop-i.invariant.2),
     )
+
+pub returns : goal.returns
+returns c =
+    let f = c.args.file.now in
+    let l = ap length c.lines-line-items.ensures ∙ length_lines f in
+    sym (onto_all (view c.loop-i.self) c.loop-i.first f c.loop-i.i (omega arith)) ∙ c.loop-i.invariant.0

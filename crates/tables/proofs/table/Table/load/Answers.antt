@@ -1,24 +1,30 @@
-use Rattle.std.proofs.Common.{sym, ap, ◌∙◌, subst, arith}
+use Rattle.std.proofs.Common.{◌≡◌, ℕ, sym, ap, ◌∙◌, subst, arith}
 use Rattle.tables.specs.Encoded.{encoded}
+use Rattle.tables.specs.Program.{decoded}
+use Rattle.tables.specs.Tables.{view, loaded}
 use Rattle.tables.specs.WellFormed.{WellFormed}
 use Rattle.tables.proofs.Wells.{well}
-use Rattle.tables.proofs.Accepted.{held, comes_back}
+use Rattle.tables.proofs.Accepted.{parts, held, comes_back}
 use Rattle.tables.proofs.table.Table.load.Goals as goal
 
-pub fill-requires-clause-wide : goal.fill-requires-clause-wide
-fill-requires-clause-wide g c =
-    (held g.V.Kind.meaning c.args.file.now (λ j. omega (arith, c.type_inv.file j)) (sym c.in_ok-question.ensures)).wide
-
-pub fill-requires-clause-deep : goal.fill-requires-clause-deep
-fill-requires-clause-deep g c =
-    (held g.V.Kind.meaning c.args.file.now (λ j. omega (arith, c.type_inv.file j)) (sym c.in_ok-question.ensures)).deep
-
-pub returns-clause-well : goal.returns-clause-well
-returns-clause-well g c h =
+pub fill-requires : goal.fill-requires
+fill-requires g c =
     let k = g.V.Kind.meaning in
-    subst (WellFormed k) (sym c.fill.ensures) (well k c.args.file.now (λ j. omega (arith, c.type_inv.file j)) h)
+    let f = c.args.file.now in
+    let e = sym c.in_ok-question.ensures in
+    let p = parts k f e in
+    let q = held k f (λ j. omega (arith, c.type_inv.file j)) e in
+    record { some = omega arith; few = p.most; wide = q.wide; deep = q.deep }
 
-pub returns-clause-back : goal.returns-clause-back
-returns-clause-back g c h =
+pub returns : goal.returns
+returns g c =
     let k = g.V.Kind.meaning in
-    ap (encoded k.byte) c.fill.ensures ∙ comes_back k c.args.file.now (λ j. omega (arith, c.type_inv.file j)) h
+    let f = c.args.file.now in
+    let e = c.in_ok-question.ensures in
+    record {
+      answer = e;
+      after = c.fill.ensures ∙ ap (λ v. loaded v (decoded f) (view c.args.self.now)) e;
+      kept = λ h. absurd (let z : ◌≡◌ {A = ℕ} 0 1 = cc in (let w : ⊥ = omega arith in w));
+      well = λ h. subst (WellFormed k) (sym c.fill.ensures) (well k f (λ j. omega (arith, c.type_inv.file j)) h);
+      back = λ h. ap (encoded k.byte) c.fill.ensures ∙ comes_back k f (λ j. omega (arith, c.type_inv.file j)) h;
+    }

@@ -1,5 +1,7 @@
 use Rattle.std.proofs.Common.{◌∙◌, arith}
-use Rattle.walks.proofs.Descents.{deeper, goes_down}
+use Rattle.walks.specs.declared.outcome.Ending.TheVariants.{Cut}
+use Rattle.walks.specs.Cursors.{Descended}
+use Rattle.walks.proofs.Descents.{no_room, deeper, goes_down}
 use Rattle.walks.proofs.cursor.Cursor.descend.Goals as goal
 
 pub loop-ending-preserved : goal.loop-ending-preserved
@@ -18,3 +20,9 @@ loop-ending-preserved g c =
           let down = goes_down w s q c.in-Open.bound c.step.ensures.path some c.if-self-eq64.false told.path (m.outcome r) (m.stands r) told.points at.0 at.1 in
           (down.0, down.1 ∙ i.1),
     )
+
+pub returns-then-self-eq64 : goal.returns-then-self-eq64
+returns-then-self-eq64 g c ready placed =
+    let r = c.args.r.now in
+    let at = c.in-Open.ensures.point (c.loop-ending.invariant.1 ready placed).0 in
+    absurd {A = Descended (g.R.Runner.outcome r) (g.R.Runner.stands r) c.args.self.now c.step.new.self Cut} (no_room (g.R.Runner.outcome r) (g.met.R.Runner.lawful r ready) c.step.new.self c.in-Open.bound c.if-self-eq64.true at.0)

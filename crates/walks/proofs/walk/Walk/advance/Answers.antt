@@ -1,7 +1,13 @@
 use Rattle.std.proofs.Common.{arith}
-use Rattle.walks.proofs.Advances.{runs_out, answers}
+use Rattle.walks.specs.Tallies.{visited}
+use Rattle.walks.proofs.Advances.{one_more, runs_out, answers}
 use Rattle.walks.proofs.Rows.{complete}
 use Rattle.walks.proofs.walk.Walk.advance.Goals as goal
+
+pub loop-preserved : goal.loop-preserved
+loop-preserved g c =
+    let told = c.visit.ensures in
+    (omega (arith, told.count, one_more (visited c.loop.self.tally) c.visit.result c.if-is_none.ensures, c.loop.invariant.0), λ ready tied. (told.leaf ready (c.loop.invariant.1 ready tied)).tied)
 
 pub returns-then-is_none : goal.returns-then-is_none
 returns-then-is_none g c =
