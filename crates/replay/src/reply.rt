@@ -24,7 +24,7 @@ fn played<V: Kind>(
     let mut cells = vec![in heap; 0; cell_room]?;
     match job.play(numbers, counts.as_mut_slice(), cells.as_mut_slice()) {
         Ok(report) => {
-            counts.truncate(usize::from(report.read));
+            counts.truncate(report.read as usize);
             cells.truncate(job.cells());
             Ok(Answer::Played {
                 report,
