@@ -1,10 +1,18 @@
 // The bytes of a record.
 ghost use Rattle.std.specs.Prelude.{◌≡◌, ◌+◌, ◌≤◌, length};
-ghost use Rattle.records.specs.Rows.{letters, marked, statement_row};
+ghost use Rattle.records.specs.Rows.{letters, row as ten, marked, statement_row};
 ghost use Rattle.records.specs.Wrote.{wrote, room_for as has_room};
 
 use crate::refusal::Refusal;
 use crate::statement::Statement;
+
+// A record: the two bytes of its mark, op, d, a, b and c.
+pub fn row(p: u8, q: u8, op: u8, d: u8, a: u8, b: u8, c: u32) -> [u8; 10]
+    ensures { result ≡ ten p q op d a b c }
+{
+    let [s, t, u, v] = c.to_be_bytes();
+    [p, q, op, d, a, b, s, t, u, v]
+}
 
 // The two letters that a record begins with. The last three are those of a sequential program's file.
 #[derive(Clone, Copy, PartialEq, Eq)]
@@ -38,8 +46,7 @@ impl Mark {
         ensures { result ≡ marked self op d a b c }
     {
         let [p, q] = self.letters();
-        let [s, t, u, v] = c.to_be_bytes();
-        [p, q, op, d, a, b, s, t, u, v]
+        row(p, q, op, d, a, b, c)
     }
 }
 
