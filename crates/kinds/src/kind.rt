@@ -1,5 +1,5 @@
 // The trait of a kind of value.
-ghost use Rattle.std.specs.Prelude.{◌≡◌, ℕ};
+ghost use Rattle.std.specs.Prelude.{◌≡◌};
 ghost use Rattle.kinds.specs.Meaning.{Meaning, Lawful};
 
 // A kind says which codes are lawful, and gives four functions of two codes and a test of one. Each answers for any
@@ -11,11 +11,14 @@ pub trait Kind {
     // What a local cell holds at the start of a run.
     const FRESH: u32;
 
-    ghost BYTE: { ℕ };
-
-    ghost FRESH: { ℕ };
-
     ghost meaning: { Meaning };
+
+    // `BYTE` and `FRESH` for generic code: a contract cannot speak of the constant of a type parameter, but of these.
+    fn kind_byte() -> u8
+        ensures { result ≡ meaning.byte };
+
+    fn fresh_code() -> u32
+        ensures { result ≡ meaning.fresh };
 
     fn sum(a: u32, b: u32) -> u32
         ensures { result ≡ meaning.sum a b };
@@ -34,10 +37,6 @@ pub trait Kind {
 
     fn lawful(c: u32) -> bool
         ensures { result ≡ meaning.lawful c };
-
-    ghost byte_is: { BYTE ≡ meaning.byte };
-
-    ghost fresh_is: { FRESH ≡ meaning.fresh };
 
     ghost closed: { Lawful meaning };
 }

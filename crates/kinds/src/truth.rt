@@ -1,6 +1,5 @@
 // Truth values: the lowest bit of a code.
 ghost use Rattle.kinds.specs.Truth.{truth};
-ghost use Rattle.std.specs.Prelude.{refl};
 ghost use Rattle.std.proofs.Common.{rules};
 
 use crate::kind::Kind;
@@ -13,17 +12,17 @@ impl Kind for Truth {
 
     const FRESH: u32 = 0;
 
-    ghost BYTE = { 2 };
-
-    ghost FRESH = { 0 };
-
     ghost meaning = { truth };
 
-    ghost byte_is = { refl };
-
-    ghost fresh_is = { refl };
-
     ghost closed = { Prim.search rules };
+
+    fn kind_byte() -> u8 {
+        Self::BYTE
+    }
+
+    fn fresh_code() -> u32 {
+        Self::FRESH
+    }
 
     // a or b
     fn sum(a: u32, b: u32) -> u32 {

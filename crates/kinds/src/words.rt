@@ -1,6 +1,5 @@
 // Words: numbers of 32 bits.
 ghost use Rattle.kinds.specs.Words.{words};
-ghost use Rattle.std.specs.Prelude.{refl};
 ghost use Rattle.std.proofs.Common.{rules};
 
 use crate::kind::Kind;
@@ -13,17 +12,17 @@ impl Kind for Words {
 
     const FRESH: u32 = 0;
 
-    ghost BYTE = { 1 };
-
-    ghost FRESH = { 0 };
-
     ghost meaning = { words };
 
-    ghost byte_is = { refl };
-
-    ghost fresh_is = { refl };
-
     ghost closed = { Prim.search rules };
+
+    fn kind_byte() -> u8 {
+        Self::BYTE
+    }
+
+    fn fresh_code() -> u32 {
+        Self::FRESH
+    }
 
     fn sum(a: u32, b: u32) -> u32 {
         a.wrapping_add(b)

@@ -2,7 +2,6 @@
 #![tactic(auto)]
 
 ghost use Rattle.levels.specs.Level.{level};
-ghost use Rattle.std.specs.Prelude.{refl};
 ghost use Rattle.std.proofs.Common.{rules};
 
 use kinds::Kind;
@@ -15,17 +14,17 @@ impl Kind for Level {
 
     const FRESH: u32 = 0;
 
-    ghost BYTE = { 100 };
-
-    ghost FRESH = { 0 };
-
     ghost meaning = { level };
 
-    ghost byte_is = { refl };
-
-    ghost fresh_is = { refl };
-
     ghost closed = { Prim.search rules };
+
+    fn kind_byte() -> u8 {
+        Self::BYTE
+    }
+
+    fn fresh_code() -> u32 {
+        Self::FRESH
+    }
 
     // at most 3
     fn sum(a: u32, b: u32) -> u32 {

@@ -14,7 +14,7 @@ use records::statement::{Place, Statement, Thread};
 fn header<V: Kind>(body: &Body) -> Result<(), RecordError>
     ensures { result ≡ ask_header V.meaning body.now }
 {
-    require(body[0] == V::BYTE, Refusal::KindByte, 2)?;
+    require(body[0] == V::kind_byte(), Refusal::KindByte, 2)?;
     require(body[1] <= 16, Refusal::Counts, 3)?;
     require(body[2] <= 8, Refusal::Counts, 4)?;
     require(1 <= body[3] && body[3] <= 8, Refusal::Counts, 5)?;

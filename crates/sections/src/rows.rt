@@ -60,7 +60,7 @@ pub fn program_row<V: Kind>(table: &Table, rounds: u8) -> [u8; 10]
     ensures { result ≡ program_row V.meaning.byte (view table.now) rounds }
 {
     Mark::Sq.row(
-        V::BYTE,
+        V::kind_byte(),
         table.cells().len() as u8,
         table.mutexes(),
         table.threads(),

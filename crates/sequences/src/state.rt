@@ -27,7 +27,7 @@ impl SeqState {
         SeqState {
             words,
             cells: initial_cells::<V>(codes),
-            locals: [[V::FRESH; 8]; 8],
+            locals: [[V::fresh_code(); 8]; 8],
         }
     }
 
@@ -63,8 +63,8 @@ impl SeqState {
         ensures { result ≡ slice_index_or (locals_of self.now i.0) n V.meaning.fresh }
     {
         match self.locals.get(usize::from(i.0)) {
-            Some(cells) => item_or(cells, n, V::FRESH),
-            None => V::FRESH,
+            Some(cells) => item_or(cells, n, V::fresh_code()),
+            None => V::fresh_code(),
         }
     }
 
@@ -82,7 +82,7 @@ impl SeqState {
         ensures { result ≡ value_of V.meaning self.now i.0 p }
     {
         match p {
-            Place::Shared(n) => item_or(&self.cells, n, V::FRESH),
+            Place::Shared(n) => item_or(&self.cells, n, V::fresh_code()),
             Place::Local(n) => self.local::<V>(i, n),
         }
     }

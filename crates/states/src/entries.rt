@@ -37,7 +37,7 @@ impl ThreadTable {
     {
         let asleep = ThreadEntry {
             label: Label(0),
-            locals: [V::FRESH; 8],
+            locals: [V::fresh_code(); 8],
             created: false,
         };
         let mut table = ThreadTable {
@@ -71,8 +71,8 @@ impl ThreadTable {
         ensures { result ≡ local_in V.meaning (entry_of self.now.entries i.0) n }
     {
         match place(i) {
-            Some(at) => item_or(&self.entries[at].locals, n, V::FRESH),
-            None => V::FRESH,
+            Some(at) => item_or(&self.entries[at].locals, n, V::fresh_code()),
+            None => V::fresh_code(),
         }
     }
 

@@ -30,7 +30,7 @@ pub fn initial_cells<V: Kind>(codes: &[u32]) -> [u32; 16]
     requires { length codes.now ≤ 16 }
     ensures { result ≡ padded V.meaning codes.now }
 {
-    let mut cells = [V::FRESH; 16];
+    let mut cells = [V::fresh_code(); 16];
     cells[0..codes.len()].copy_from_slice(codes);
     cells
 }
@@ -52,7 +52,7 @@ impl State {
         ensures { result ≡ value V.meaning self.now i.0 p }
     {
         match p {
-            Place::Shared(n) => item_or(&self.cells, n, V::FRESH),
+            Place::Shared(n) => item_or(&self.cells, n, V::fresh_code()),
             Place::Local(n) => self.threads.local::<V>(i, n),
         }
     }

@@ -101,7 +101,7 @@ impl Table {
         ensures { result ≡ header_row V.meaning.byte (view self.now) }
     {
         Mark::Pg.row(
-            V::BYTE,
+            V::kind_byte(),
             self.cells.len() as u8,
             self.mutexes,
             self.threads(),
