@@ -8,7 +8,7 @@ ghost use Rattle.threads.specs.Turns.{width, seek as first_existing, standing as
 
 use crate::machine::Machine;
 use crate::point::Point;
-use crate::slot::Slot;
+use crate::slot::{Slot, run_slot};
 use kinds::Kind;
 use records::statement::Thread;
 use reports::report::{SlotCount, Turn};
@@ -53,7 +53,7 @@ impl<V: Kind> Machine<V> {
                 count: SlotCount(0),
             };
         }
-        self.run_slot(state, i, n)
+        run_slot::<V>(state, &self.table, i, n)
     }
 }
 

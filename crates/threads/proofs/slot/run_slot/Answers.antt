@@ -1,7 +1,7 @@
 use Rattle.std.proofs.Common.{sym, ap, ◌∙◌, arith}
 use Rattle.threads.specs.Slots.{ran}
 use Rattle.threads.proofs.Runs.{run_after, run_none}
-use Rattle.threads.proofs.machine.Machine.run_slot.Goals as goal
+use Rattle.threads.proofs.slot.run_slot.Goals as goal
 
 pub returns-in-Err : goal.returns-in-Err
 returns-in-Err g c =
