@@ -3,8 +3,8 @@ ghost use Rattle.std.specs.Prelude.{◌≡◌, if◌then◌else◌};
 ghost use Rattle.sequences.specs.declared.act.Act.TheVariants.{On};
 ghost use Rattle.sequences.specs.Acts.{act as said_act, whole as is_whole, hopping};
 
-use crate::instruction::{Address, Instruction, STOP_AT, Word};
-use crate::state::SeqState;
+use crate::instruction::{Address, Instruction, Word};
+use crate::state::{STOP_AT, SeqState};
 use kinds::Kind;
 use records::statement::{Label, Place, Thread};
 
@@ -64,9 +64,9 @@ pub(crate) fn act_of<V: Kind>(state: &SeqState, i: Thread, instruction: Instruct
         Instruction::Hop { i: j, t, to } => hop(state, j, t, to),
         Instruction::Guard { t } => on_if(t.0 <= state.word(STOP_AT), false, Act::Stop),
         Instruction::Return => Act::Back,
-        Instruction::Must { w, v } => on_if(state.word(w) == v, false, Act::Fail),
-        Instruction::MustNot { w, v } => on_if(state.word(w) != v, false, Act::Fail),
-        Instruction::Need { w, v } => on_if(state.word(w) == v, whole(w), Act::Stop),
+        Instruction::Must { w, v } => on_if(state.word(w.into()) == v, false, Act::Fail),
+        Instruction::MustNot { w, v } => on_if(state.word(w.into()) != v, false, Act::Fail),
+        Instruction::Need { w, v } => on_if(state.word(w.into()) == v, whole(w), Act::Stop),
         Instruction::Put { w, v } => Act::Mark(w, v),
         Instruction::Slot { .. }
         | Instruction::Guess { .. }

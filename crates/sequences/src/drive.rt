@@ -7,11 +7,11 @@ ghost use Rattle.sequences.specs.Passages.{with_state};
 ghost use Rattle.sequences.specs.Sequences.{codes_of, sections_of, guide_of, instructions, starts};
 ghost use Rattle.sequences.specs.Strides.{strode, entered, stride as strides_so};
 
-use crate::instruction::{Address, Instruction, STOP_AT, Word};
+use crate::instruction::{Address, Instruction, Word};
 use crate::point::SeqPoint;
 use crate::section::{Section, call_section};
 use crate::sequence::{Part, Sequence};
-use crate::state::SeqState;
+use crate::state::{STOP_AT, SeqState};
 use kinds::Kind;
 use records::lookup::{item_or, part_of};
 use records::statement::Thread;
@@ -83,7 +83,7 @@ impl<V: Kind> Sequence<V> {
         let behind = Address(at.at.0 + 1);
         match instruction {
             Instruction::Slot { i, to } => {
-                at.at = if at.state.word(Word::active(i)) == 0 {
+                at.at = if at.state.word(Word::active(i).into()) == 0 {
                     to
                 } else {
                     behind

@@ -2,6 +2,7 @@
 ghost use Rattle.std.specs.Prelude.{◌≡◌, min};
 ghost use Rattle.sequences.specs.Words.{active as active_word, saved as saved_word, lock as lock_word};
 
+use crate::state;
 use records::statement::{Label, Mutex, Place, Thread};
 
 // A place in a section or in the driver: how many instructions stand before it.
@@ -12,8 +13,8 @@ pub struct Address(pub u16);
 #[derive(Clone, Copy)]
 pub struct Word(pub u8);
 
-// The word that says at which label the thread that runs now is to stop.
-pub const STOP_AT: Word = Word(24);
+// The word of `state::STOP_AT`.
+pub const STOP_AT: Word = Word(state::STOP_AT as u8);
 
 // No state has a word 255: it stands for the words of threads and mutexes whose numbers are too high for a word.
 impl Word {
@@ -36,6 +37,15 @@ impl Word {
         ensures { result.0 ≡ min (lock_word m.0) 255 }
     {
         Word(m.0.saturating_add(16))
+    }
+}
+
+// A state is asked for its words by their numbers.
+impl From<Word> for usize {
+    ghost from_gives = { λ word n. n ≡ word.0 };
+
+    fn from(word: Word) -> usize {
+        usize::from(word.0)
     }
 }
 

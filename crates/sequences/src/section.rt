@@ -25,7 +25,7 @@ fn perform(state: &mut SeqState, i: Thread, act: Act)
 {
     match act {
         Act::Write(p, c) => state.put(i, p, c),
-        Act::Mark(w, v) => state.set_word(w, v),
+        Act::Mark(w, v) => state.set_word(w.into(), v),
         _ => (),
     }
 }

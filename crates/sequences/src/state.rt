@@ -3,11 +3,20 @@ ghost use Rattle.std.specs.Prelude.{◌≡◌, ◌≤◌, length, slice_index_or
 ghost use Rattle.sequences.specs.States.{word as word_of, with_word, value as value_of, put as put_by, locals_of, with_locals, begun};
 ghost use Rattle.sequences.specs.Words.{saved as saved_word};
 
-use crate::instruction::Word;
 use kinds::Kind;
 use records::lookup::{item_or, set_item};
 use records::statement::{Place, Thread};
 use states::state::initial_cells;
+
+// The word that says at which label the thread that runs now is to stop.
+pub const STOP_AT: usize = 24;
+
+// The word that holds the label at which thread `i` stopped.
+pub fn saved(i: Thread) -> usize
+    ensures { result ≡ saved_word i.0 }
+{
+    8 + usize::from(i.0)
+}
 
 #[derive(Clone, Copy)]
 pub struct SeqState {
@@ -31,31 +40,34 @@ impl SeqState {
         }
     }
 
-    // A word, and 0 where there is none.
-    pub fn word(&self, w: Word) -> u8
-        ensures { result ≡ word_of self.now w.0 }
+    // A word by its number, and 0 where there is none.
+    pub fn word(&self, w: usize) -> u8
+        ensures { result ≡ word_of self.now w }
     {
-        item_or(&self.words, w.0, 0)
+        self.words.get(w).copied().unwrap_or(0)
     }
 
-    pub fn set_word(&mut self, w: Word, v: u8)
-        ensures { self.new ≡ with_word self.old w.0 v }
+    pub fn set_word(&mut self, w: usize, v: u8)
+        ensures { self.new ≡ with_word self.old w v }
     {
-        set_item(&mut self.words, w.0, v);
+        // No `get_mut`: its contract says nothing of what the words end as.
+        if w < 25 {
+            self.words[w] = v;
+        }
     }
 
     // The label at which thread `i` stopped.
     pub fn saved(&self, i: Thread) -> u8
         ensures { result ≡ word_of self.now (saved_word i.0) }
     {
-        self.word(Word::saved(i))
+        self.word(saved(i))
     }
 
     // Thread `i` stopped at a label.
     pub fn save(&mut self, i: Thread, label: u8)
         ensures { self.new ≡ with_word self.old (saved_word i.0) label }
     {
-        self.set_word(Word::saved(i), label);
+        self.set_word(saved(i), label);
     }
 
     // The code in local cell `n` of thread `i`, and the fresh code where there is none.
