@@ -75,7 +75,7 @@ nowhere (Some l) e = absurd (none-some _ (sym e))
 
 somewhere : (o : Option Latest) (f : Found) → place o ≡ Some f → as_failing o ≡ Some (record { position = f.position; numbers = list_found o })
 somewhere None f e = absurd (none-some f e)
-somewhere (Some l) f e = let same : l.position ≡ f.position = (let z = e in cc) in ap (λ n. Some (record { position = n; numbers = l.numbers.items })) same
+somewhere (Some l) f e = let same : l.position ≡ f.position = (let z = e in cc) in ap (λ n. Some (record { position = n; numbers = list_found (Some l) })) same
 
 module _ {V : Type 0} {G : Ghosts V} (k : Meaning) (j : Job V G) (guesses schedule : List ℕ) where
   abbrev tally : Tally

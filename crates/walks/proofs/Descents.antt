@@ -9,13 +9,13 @@ use Rattle.walks.specs.Outcomes.{IsOpen}
 use Rattle.walks.specs.Paths.{Levels, levels, points, pushed}
 use Rattle.walks.specs.Runs.{Lawful}
 use Rattle.walks.proofs.Aheads.{ahead_pushed}
-use Rattle.walks.proofs.Levels.{numbers_wide, bounds_wide}
+use Rattle.walks.proofs.Levels.{bounds_wide}
 use Rattle.walks.proofs.Points.{placed_set}
 
 -- a list of 64 numbers is not open
 pub no_room : {P : Type 0} (out : List ℕ → Outcome) → Lawful out → (c : Cursor P) (b : ℕ) → c.depth ≡ 64 → out (leaf_of c) ≡ Open b → ⊥
 no_room out laws c b full opens =
-    let long : length (leaf_of c) ≡ 64 = length-take-le c.depth (levels c).numbers (omega (arith, full, numbers_wide c)) ∙ full in
+    let long : length (leaf_of c) ≡ 64 = length-take-le c.depth (levels c).numbers (omega (arith, full, c.numbers_wide)) ∙ full in
     laws.short (leaf_of c) long (subst IsOpen (sym opens) tt)
 
 -- the cursor s, which has the levels of c, with a level pushed
@@ -33,7 +33,7 @@ module _ {P : Type 0} (c s q : Cursor P) (b : ℕ) (same : levels s ≡ levels c
       let p = levels s in
       let deep : s.depth ≡ c.depth = ap (λ (x : Levels). x.depth) same in
       let less : c.depth < 64 = deeper.1 in
-      let ln = numbers_wide s in
+      let ln = s.numbers_wide in
       let lb = bounds_wide s in
       let Goal : List P → Levels → Type 0 = λ ps x. Placed stands ps x.numbers x.depth × (ahead_in out x ≡ ahead_in out (levels c)) in
       subst₂ Goal (sym kept) (sym push) (

@@ -42,14 +42,14 @@ module _ {P : Type 0} (out : List ℕ → Outcome) (stands : P → List ℕ → 
 
 module _ {P : Type 0} (out : List ℕ → Outcome) (stands : P → List ℕ → Type 0) (points : List P) (ns : List ℕ) where
   -- the step from the last of d points, a, made in the place behind it
-  pub arrives : (d : ℕ) (a p : P) (o : Outcome) → 0 < d → d < length ns → d < length points → ((q : P) → get_or points (d - 1) q ≡ a)
+  pub arrives : (d : ℕ) (a p : P) (o : Outcome) → 0 < d → d ≤ length ns → d < length points → ((q : P) → get_or points (d - 1) q ≡ a)
       → ((l : List ℕ) → stands a l → Landed out stands (l ++ get_or ns (d - 1) 0 ∷ []) o p)
       → Placed stands points ns d
       → (out (take d ns) ≡ o) × Placed stands (set (set points (d - 1 + 1) a) (d - 1 + 1) p) ns (reached o d)
   arrives d a p o h le lt last told placed =
       let e : d - 1 + 1 ≡ d = omega arith in
       let from : stands a (take (d - 1) ns) = subst (λ x. stands x (take (d - 1) ns)) (last a) (placed (d - 1) a (omega arith)) in
-      let at : Landed out stands (take d ns) o p = subst (λ s. Landed out stands s o p) (tried ns d h (omega arith)) (told (take (d - 1) ns) from) in
+      let at : Landed out stands (take d ns) o p = subst (λ s. Landed out stands s o p) (tried ns d h le) (told (take (d - 1) ns) from) in
       let room : d < length (set points d a) = omega (arith, length-set points d a) in
       let stood : Placed stands (set (set points d a) d p) ns (reached o d) = placed_reached out stands (set points d a) ns d p o room (placed_past stands points ns d d a (omega arith) placed) at in
       (at.0, subst (λ k. Placed stands (set (set points k a) k p) ns (reached o d)) (sym e) stood)

@@ -8,7 +8,7 @@ use Rattle.walks.specs.declared.outcome.Outcome.TheVariants.{Ended}
 use Rattle.walks.specs.declared.tally.Tally.{Tally}
 use Rattle.walks.specs.Leaves.{leaves}
 use Rattle.walks.specs.Paths.{Levels, list_of}
-use Rattle.walks.specs.Tallies.{fails, cuts, fills, ends_so, count, latest, visited, Tallied, tallied, nothing, noted, as_failing, found, Counted}
+use Rattle.walks.specs.Tallies.{fails, cuts, fills, ends_so, count, latest, visited, Tallied, tallied, nothing, noted, found, Counted}
 
 one : Bool → ℕ
 one b = cond b 1 0
@@ -46,7 +46,7 @@ module _ (t : Tally) (p : Levels) where
   noted_full Cut = omega arith
   noted_full Full = refl
 
-  noted_found : (e : Ending) → as_failing (noted t e p).latest ≡ cond (fails e) (Some (record { position = visited t + 1; numbers = list_of p })) (found t)
+  noted_found : (e : Ending) → (noted t e p).latest ≡ cond (fails e) (Some (record { position = visited t + 1; numbers = list_of p })) (found t)
   noted_found Failed = refl
   noted_found Cut = refl
   noted_found Full = refl
@@ -75,7 +75,7 @@ counted_none out t same =
       failed = ap (λ (s : Tallied). s.failed) same ∙ counts fails;
       cut = ap (λ (s : Tallied). s.cut) same ∙ counts cuts;
       full = ap (λ (s : Tallied). s.full) same ∙ counts fills;
-      latest = ap (λ (s : Tallied). as_failing s.latest) same ∙ ap (latest out (leaves out)) (sym none);
+      latest = ap (λ (s : Tallied). s.latest) same ∙ ap (latest out (leaves out)) (sym none);
     }
 
 pub counted_one : (out : List ℕ → Outcome) (t u : Tally) (p : Levels) (e : Ending) → tallied u ≡ noted t e p → Counted out t → visited t < length (leaves out)
@@ -92,7 +92,7 @@ counted_one out t u p e same c lt at ends =
       cut = ap (λ (s : Tallied). s.cut) same ∙ noted_cut t p e ∙ ap (λ n. n + one (cuts e)) c.cut ∙ more cuts;
       full = ap (λ (s : Tallied). s.full) same ∙ noted_full t p e ∙ ap (λ n. n + one (fills e)) c.full ∙ more fills;
       latest =
-          ap (λ (s : Tallied). as_failing s.latest) same
+          ap (λ (s : Tallied). s.latest) same
           ∙ noted_found t p e
           ∙ ap (λ x. cond (fails e) (Some (record { position = v + 1; numbers = list_of p })) x) c.latest
           ∙ sym (ap (latest out xs) next ∙ latest_more out xs v (list_of p) e at ends);

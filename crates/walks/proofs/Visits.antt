@@ -16,7 +16,6 @@ use Rattle.walks.specs.Runs.{Lawful}
 use Rattle.walks.specs.Tallies.{visited, Tallied, tallied, nothing, noted}
 use Rattle.walks.specs.Walks.{Tied, Visited, next_outcome}
 use Rattle.walks.proofs.Aheads.{ahead_none, ahead_first, ahead_leaf, ahead_some, ahead_turned}
-use Rattle.walks.proofs.Levels.{numbers_wide}
 use Rattle.walks.proofs.Points.{placed_set, placed_less}
 use Rattle.walks.proofs.Scans.{leaves_at}
 use Rattle.walks.proofs.Tallying.{counted_none, counted_one, noted_visited}
@@ -53,8 +52,8 @@ module _ {P : Type 0} (stands : P → List ℕ → Type 0) (points : List P) (ns
 
 module _ {P : Type 0} (out : List ℕ → Outcome) (stands : P → List ℕ → Type 0) where
   ahead_start : (o : Outcome) → ahead_in out (first o) ≡ from_start out o
-  ahead_start (Open b) = ahead_first out (replicate 65 0) (replicate 65 b) b refl refl
-  ahead_start (Ended e) = ahead_none out (replicate 65 0) (replicate 65 0)
+  ahead_start (Open b) = ahead_first out (replicate 64 0) (replicate 65 b) b refl refl
+  ahead_start (Ended e) = ahead_none out (replicate 64 0) (replicate 65 0)
 
   placed_start : (o : Outcome) (points : List P) → (IsOpen o → (x : P) → stands (get_or points 0 x) []) → Placed stands points (first o).numbers (first o).depth
   placed_start (Open b) points at j x lt = let z : j ≡ 0 = omega arith in rw z (at tt x)
@@ -83,7 +82,7 @@ module _ {P : Type 0} (out : List ℕ → Outcome) (stands : P → List ℕ → 
       let xs = leaves out in
       let v = visited w.tally in
       let few : p.depth ≤ 64 = d.few in
-      let wide : length ns ≡ 65 = numbers_wide d in
+      let wide : length ns ≡ 64 = d.numbers_wide in
       let less : k ≤ p.depth = left_le e p.depth in
       let rows : drop v xs ≡ leaf_of d ∷ after out ns bs k = t.ahead ∙ sym down.ahead ∙ ahead_leaf out ns bs p.depth e down.some (omega arith) down.ends in
       let nx = next_of xs (after out ns bs k) v (leaf_of d) rows in
@@ -108,6 +107,6 @@ module _ {P : Type 0} (out : List ℕ → Outcome) (stands : P → List ℕ → 
   pub some_left : Lawful out → (w : Walk P) → Tied out stands w → 0 < w.cursor.depth → visited w.tally < length (leaves out)
   some_left laws w t some =
       let p = levels w.cursor in
-      let more : 0 < length (ahead_of out w.cursor) = ahead_some out p.numbers p.bounds laws p.depth some w.cursor.few (omega (arith, numbers_wide w.cursor)) in
+      let more : 0 < length (ahead_of out w.cursor) = ahead_some out p.numbers p.bounds laws p.depth some w.cursor.few (omega (arith, w.cursor.numbers_wide)) in
       let e : length (leaves out) - visited w.tally ≡ length (ahead_of out w.cursor) = sym (length-drop (visited w.tally) (leaves out)) ∙ ap length t.ahead in
       omega (arith, more, e)

@@ -16,7 +16,7 @@ pub record Levels : Type 0 where
 
 module _ {P : Type 0} where
   abbrev pub levels : Cursor P → Levels
-  levels c = record { numbers = map (λ (l : Level P). l.number) c.levels; bounds = map (λ (l : Level P). l.bound) c.levels; depth = c.depth }
+  levels c = record { numbers = c.numbers; bounds = map (λ (l : Level P). l.bound) c.levels; depth = c.depth }
 
   -- and the point before it
   abbrev pub points : Cursor P → List P
@@ -32,7 +32,7 @@ first_depth (Ended e) = 0
 
 -- the levels at the start, the outcome of the empty list being given
 abbrev pub first : Outcome → Levels
-first o = record { numbers = replicate 65 0; bounds = replicate 65 (bound o); depth = first_depth o }
+first o = record { numbers = replicate 64 0; bounds = replicate 65 (bound o); depth = first_depth o }
 
 -- one level more, at its first number
 abbrev pub pushed : Levels → ℕ → Levels

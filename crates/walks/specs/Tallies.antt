@@ -46,28 +46,40 @@ latest out rows (suc v) = cond (ends_so fails (out (slice_index_or rows v []))) 
 abbrev pub visited : Tally → ℕ
 visited t = t.failed + t.cut + t.full
 
+-- the list that failed last
+abbrev pub numbers_of : Latest → List ℕ
+numbers_of l = take l.depth l.numbers
+
+abbrev pub as_failing : Option Latest → Option Failing
+as_failing None = None
+as_failing (Some l) = Some (record { position = l.position; numbers = numbers_of l })
+
+-- what a tally found last
+abbrev pub found : Tally → Option Failing
+found t = as_failing t.latest
+
 -- what a tally says
 pub record Tallied : Type 0 where
   pub failed : ℕ
   pub cut : ℕ
   pub full : ℕ
-  pub latest : Option Latest
+  pub latest : Option Failing
 
 abbrev pub tallied : Tally → Tallied
-tallied t = record { failed = t.failed; cut = t.cut; full = t.full; latest = t.latest }
+tallied t = record { failed = t.failed; cut = t.cut; full = t.full; latest = found t }
 
 abbrev pub nothing : Tallied
 nothing = record { failed = 0; cut = 0; full = 0; latest = None }
 
 -- one leaf more, which ends so
 abbrev pub noted : Tally → Ending → Levels → Tallied
-noted t Failed p = record { failed = t.failed + 1; cut = t.cut; full = t.full; latest = Some (record { numbers = record { items = list_of p }; position = visited t + 1 }) }
-noted t Cut p = record { failed = t.failed; cut = t.cut + 1; full = t.full; latest = t.latest }
-noted t Full p = record { failed = t.failed; cut = t.cut; full = t.full + 1; latest = t.latest }
+noted t Failed p = record { failed = t.failed + 1; cut = t.cut; full = t.full; latest = Some (record { position = visited t + 1; numbers = list_of p }) }
+noted t Cut p = record { failed = t.failed; cut = t.cut + 1; full = t.full; latest = found t }
+noted t Full p = record { failed = t.failed; cut = t.cut; full = t.full + 1; latest = found t }
 
 abbrev pub list_found : Option Latest → List ℕ
 list_found None = []
-list_found (Some l) = l.numbers.items
+list_found (Some l) = numbers_of l
 
 -- the numbers of the list that a tally found last, and none before one is
 abbrev pub latest_list : Tally → List ℕ
@@ -76,15 +88,7 @@ latest_list t = list_found t.latest
 -- where it was found
 abbrev pub place : Option Latest → Option Found
 place None = None
-place (Some l) = Some (record { length = length l.numbers.items; position = l.position })
-
-abbrev pub as_failing : Option Latest → Option Failing
-as_failing None = None
-as_failing (Some l) = Some (record { position = l.position; numbers = l.numbers.items })
-
--- what a tally found last
-abbrev pub found : Tally → Option Failing
-found t = as_failing t.latest
+place (Some l) = Some (record { length = length (numbers_of l); position = l.position })
 
 -- A tally of the first leaves.
 pub record Counted (out : List ℕ → Outcome) (t : Tally) : Type 0 where

@@ -1,19 +1,21 @@
 // What a walk has counted.
-ghost use Rattle.std.specs.Prelude.{◌+◌, ◌^◌, ◌<◌};
-
-use arrayvec::ArrayVec;
+ghost use Rattle.std.specs.Prelude.{◌≡◌, ◌+◌, ◌^◌, ◌<◌, ◌≤◌, length};
 
 mod notes;
 
-// The list that failed last, and how many leaves had been visited with it.
-#[derive(Drop)]
+// The list that failed last, the numbers up to the depth, and how many leaves had been visited with it. No ArrayVec: it
+// would be filled by one push for each number.
+#[derive(Clone, Copy)]
 pub struct Latest {
-    pub numbers: ArrayVec<u8, 64>,
+    pub numbers: [u8; 64],
+    pub depth: usize,
     pub position: u32,
+    ghost few: { depth ≤ 64 },
+    ghost wide: { length numbers ≡ 64 },
 }
 
 // The leaves visited, by how they ended.
-#[derive(Drop)]
+#[derive(Clone, Copy)]
 pub struct Tally {
     pub failed: u32,
     pub cut: u32,

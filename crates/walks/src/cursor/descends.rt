@@ -23,9 +23,9 @@ impl<P: Copy> Cursor<P> {
         ensures point { PlacedAt (R.stands r.now) self.old → Arrived (R.outcome r.now) (R.stands r.now) self.new result }
     {
         let top = self.depth - 1;
+        let number = self.numbers[top];
         let levels = &mut self.levels;
         let levels = &mut levels[..];
-        let number = levels[top].number;
         levels[top + 1].point = levels[top].point;
         go_on(r, &mut levels[top + 1].point, number)
     }
@@ -36,7 +36,7 @@ impl<P: Copy> Cursor<P> {
         ensures path { levels self.new ≡ pushed (levels self.old) bound }
         ensures points { points self.new ≡ points self.old }
     {
-        self.levels[self.depth].number = 0;
+        self.numbers[self.depth] = 0;
         self.levels[self.depth].bound = bound;
         self.depth += 1;
     }

@@ -1,10 +1,9 @@
 // A cursor begins, and goes on past a leaf.
 ghost use Rattle.std.specs.Prelude.{◌≡◌, replicate};
-ghost use Rattle.walks.specs.Paths.{levels, points, first, turned, left, list_of};
+ghost use Rattle.walks.specs.Paths.{levels, points, first, turned, left};
 
 use crate::cursor::{Cursor, Level};
 use crate::outcome::{Ending, Outcome};
-use arrayvec::ArrayVec;
 
 impl<P: Copy> Cursor<P> {
     // One level, if the empty list is open, and else none.
@@ -13,7 +12,6 @@ impl<P: Copy> Cursor<P> {
         ensures points { points result ≡ replicate 65 point }
     {
         let level = Level {
-            number: 0,
             bound: outcome.bound(),
             point,
         };
@@ -22,20 +20,10 @@ impl<P: Copy> Cursor<P> {
             Outcome::Ended(_) => 0,
         };
         Cursor {
+            numbers: [0; 64],
             levels: [level; 65],
             depth,
         }
-    }
-
-    // The list that is tried.
-    pub fn list(&self) -> ArrayVec<u8, 64>
-        ensures { result.items ≡ list_of (levels self.now) }
-    {
-        let mut list = ArrayVec::new();
-        for level in &self.levels[..self.depth] {
-            list.push(level.number);
-        }
-        list
     }
 
     // Goes on to the next number of the deepest level that has one.
@@ -44,8 +32,8 @@ impl<P: Copy> Cursor<P> {
         ensures points { points self.new ≡ points self.old }
     {
         for i in (0..self.depth).rev() {
-            if self.levels[i].number < self.levels[i].bound {
-                self.levels[i].number += 1;
+            if self.numbers[i] < self.levels[i].bound {
+                self.numbers[i] += 1;
                 self.depth = i + 1;
                 return;
             }

@@ -37,7 +37,8 @@ impl Tally {
                 let position = self.visited() + 1;
                 self.failed += 1;
                 self.latest = Some(Latest {
-                    numbers: cursor.list(),
+                    numbers: cursor.numbers,
+                    depth: cursor.depth,
                     position,
                 });
             }
@@ -53,7 +54,7 @@ impl Tally {
         match &self.latest {
             None => None,
             Some(latest) => Some(Found {
-                length: latest.numbers.len() as u8,
+                length: latest.depth as u8,
                 position: latest.position,
             }),
         }
@@ -66,7 +67,7 @@ impl Tally {
     {
         match &self.latest {
             None => &[],
-            Some(latest) => latest.numbers.as_slice(),
+            Some(latest) => &latest.numbers[..latest.depth],
         }
     }
 }

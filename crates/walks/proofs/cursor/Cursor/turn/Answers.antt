@@ -1,25 +1,22 @@
-use Rattle.std.proofs.Common.{◌-◌, refl, ap, ◌∙◌, arith}
-use Rattle.std.proofs.Math.Seq.{map-set_same}
+use Rattle.std.proofs.Common.{ap, arith}
 use Rattle.walks.specs.Paths.{levels, points}
 use Rattle.walks.proofs.Levels.{turn_back, turn_up}
 use Rattle.walks.proofs.Turns.{turns_out}
 use Rattle.walks.proofs.cursor.Cursor.turn.Goals as goal
 
-pub returns-then-self-i-clause-path : goal.returns-then-self-i-clause-path
-returns-then-self-i-clause-path g c =
+pub returns-then-self-i : goal.returns-then-self-i
+returns-then-self-i g c =
     let l = c.loop-i in
-    turn_up l.self c.args.self.now l.i l.invariant.0 c.loop-i-test.true l.auto.i c.index-self-i.result c.index-self-i-in-loop-i.result l.invariant.1 c.if-self-i.true c.index-self-i-then-self-i.result c.index-self-i-then-self-i-2.result _ refl refl
-
-pub returns-then-self-i-clause-points : goal.returns-then-self-i-clause-points
-returns-then-self-i-clause-points g c =
-    let l = c.loop-i in
-    map-set_same _ l.self.levels (l.i - 1) _ c.index-self-i-then-self-i-2.result refl ∙ ap points l.invariant.0
+    record {
+      path = turn_up l.self c.args.self.now l.i l.invariant.0 c.loop-i-test.true l.auto.i c.index-self-i.result l.invariant.1 c.if-self-i.true;
+      points = ap points l.invariant.0;
+    }
 
 pub loop-i-preserved : goal.loop-i-preserved
 loop-i-preserved g c =
     let l = c.loop-i in (
       l.invariant.0,
-      turn_back l.self c.args.self.now l.i l.invariant.0 c.loop-i-test.true l.auto.i c.index-self-i.result c.index-self-i-in-loop-i.result l.invariant.1 c.if-self-i.false,
+      turn_back l.self c.args.self.now l.i l.invariant.0 c.loop-i-test.true l.auto.i c.index-self-i.result l.invariant.1 c.if-self-i.false,
     )
 
 pub returns-clause-path : goal.returns-clause-path
