@@ -1,4 +1,4 @@
--- What Play, Drive and Found tell of a translated job.
+-- What Play and Save tell of a session, and Drive and Found of a translated job.
 use Rattle.std.proofs.Common.{◌≡◌, ℕ, List, length, Some, None, Option, Result, sym, refl, ap, ◌∙◌, subst, ap₂}
 use Rattle.std.proofs.lemmas.Option.{none-some}
 use Rattle.kinds.specs.declared.kind.Kind.{Ghosts}
@@ -6,6 +6,8 @@ use Rattle.agreement.specs.Agreement.{play_told}
 use Rattle.kinds.specs.Meaning.{Meaning, Lawful}
 use Rattle.records.specs.declared.refusal.Refusal.{Refusal}
 use Rattle.records.specs.declared.refusal.Refusal.TheVariants.{NothingFound}
+use Rattle.records.specs.Wrote.{counted, filled}
+use Rattle.tables.specs.Encoded.{encoded}
 use Rattle.reports.specs.declared.report.Report.{Report}
 use Rattle.reports.specs.Reports.{refusal, front, answered, unless}
 use Rattle.guesses.proofs.Codes.{drive_codes}
@@ -28,29 +30,49 @@ use Rattle.walks.specs.declared.tally.Tally.{Tally}
 use Rattle.walks.specs.Leaves.{leaves}
 use Rattle.walks.specs.Tallies.{latest, latest_list, list_found, place, as_failing}
 use Rattle.jobs.specs.declared.job.Job.{Job}
-use Rattle.jobs.specs.Keeps.{HasTranslation}
-use Rattle.jobs.specs.Models.{Lent, lent_as, lent, latest_found, Shown, shown, unshown, found_so}
+use Rattle.jobs.specs.declared.job.Stage.{Stage}
+use Rattle.jobs.specs.declared.session.Session.{Session}
+use Rattle.jobs.specs.Keeps.{KeepsSession, HasSchedules, HasTranslation}
+use Rattle.jobs.specs.Models.{Model, empty, loaded, translated, first_no, Lent, lent_as, lent, play_reply, latest_found, Shown, shown, unshown, found_so, Written, written_as, save_reply}
+use Rattle.jobs.specs.Sessions.{stage_loaded, stage_translated, else}
 use Rattle.jobs.proofs.Standing.{guessed_is}
 
 lent_same : (a b : Result Report Refusal) (c d e f : List ℕ) → a ≡ b → c ≡ d → e ≡ f → lent_as a c e ≡ lent_as b d f
 lent_same a b c d e f p q r = ap₂ (λ a c. lent_as a c e) p q ∙ ap (lent_as b d) r
 
-module _ {V : Type 0} {G : Ghosts V} (k : Meaning) (j : Job V G) (ns counts cells : List ℕ) where
+module _ {V : Type 0} {G : Ghosts V} (k : Meaning) (s : Session V G) (ns counts cells : List ℕ) where
   -- Play on the program and the rounds that the machine has
   abbrev plays_so : Program → ℕ → Lent
   plays_so p r = lent (refusal ns counts cells (length p.cells)) (play_told k p r ns) counts cells
 
-  abbrev no_play : Option Refusal
-  no_play = refusal ns counts cells (length (program j.threads).cells)
+  abbrev no_play : Stage → Option Refusal
+  no_play st = first_no (stage_translated st) (refusal ns counts cells (length (program s.machine).cells))
 
-  pub plays_told : (a : Result Report Refusal) (out left : List ℕ) → a ≡ answered no_play (threads.reported (plays k j.threads ns)) → out ≡ unless no_play (front (plays k j.threads ns).counts counts) counts → left ≡ unless no_play (front (machines.cells_left k j.threads ns) cells) cells
-      → (p : Program) (r v u : ℕ) → HasTranslation k j p r v u → lent_as a out left ≡ plays_so p r
-  plays_told a out left ea eo el p r v u h = lent_same _ _ _ _ _ _ ea eo el ∙ ap₂ plays_so h.program h.rounds
+  abbrev plays_at : Stage → Lent
+  plays_at st = lent (no_play st) (play_told k (program s.machine) s.machine.rounds ns) counts cells
 
-  pub play_lawful : (WellFormed k (program j.threads) → LawfulCodes k (machines.cells_left k j.threads ns)) → (p : Program) (r v u : ℕ) → HasTranslation k j p r v u → LawfulCodes k (cells_of p (play k p r ns).state)
+  pub plays_told : (a : Result Report Refusal) (out left : List ℕ) → a ≡ answered (no_play s.stage) (threads.reported (plays k s.machine ns)) → out ≡ unless (no_play s.stage) (front (plays k s.machine ns).counts counts) counts → left ≡ unless (no_play s.stage) (front (machines.cells_left k s.machine ns) cells) cells
+      → (m : Model) → KeepsSession k s m → lent_as a out left ≡ play_reply k m ns counts cells
+  plays_told a out left ea eo el empty h = lent_same _ _ _ _ _ _ ea eo el ∙ ap plays_at h
+  plays_told a out left ea eo el (loaded p) h = lent_same _ _ _ _ _ _ ea eo el ∙ ap plays_at h.stage
+  plays_told a out left ea eo el (translated p r v u) h = lent_same _ _ _ _ _ _ ea eo el ∙ ap plays_at h.stage ∙ ap₂ plays_so h.program h.rounds
+
+  pub play_lawful : (WellFormed k (program s.machine) → LawfulCodes k (machines.cells_left k s.machine ns)) → (p : Program) (r v u : ℕ) → HasSchedules k s p r u → LawfulCodes k (cells_of p (play k p r ns).state)
   play_lawful laws p r v u h =
       subst (LawfulCodes k) (ap₂ (λ p r. cells_of p (play k p r ns).state) h.program h.rounds) (laws (subst (WellFormed k) (sym h.program) h.exists))
 
+-- Save, by the stage and by the model
+module _ {V : Type 0} {G : Ghosts V} (k : Meaning) (s : Session V G) (old : List ℕ) where
+  abbrev saves_at : Stage → Program → Written
+  saves_at st p = written_as (else (stage_loaded st) (counted old (encoded k.byte p))) (unless (stage_loaded st) (filled old (encoded k.byte p)) old)
+
+  pub saved_so : (a : Result ℕ Refusal) (out : List ℕ) → a ≡ else (stage_loaded s.stage) (counted old (encoded k.byte (program s.machine))) → out ≡ unless (stage_loaded s.stage) (filled old (encoded k.byte (program s.machine))) old
+      → (m : Model) → KeepsSession k s m → written_as a out ≡ save_reply k m old
+  saved_so a out ea eo empty h = ap₂ written_as ea eo ∙ ap (λ st. saves_at st (program s.machine)) h
+  saved_so a out ea eo (loaded p) h = ap₂ written_as ea eo ∙ ap₂ saves_at h.stage h.program
+  saved_so a out ea eo (translated p r v u) h = ap₂ written_as ea eo ∙ ap₂ saves_at h.stage h.program
+
+module _ {V : Type 0} {G : Ghosts V} (k : Meaning) (j : Job V G) (ns counts cells : List ℕ) where
   -- Drive on the codes that the sequential program has, and what it comes to
   abbrev drives_as : List ℕ → Driven → Lent
   drives_as codes d = lent (refusal ns counts cells (length codes)) (record { report = sequences.reported d; counts = d.counts; cells = own_cells codes d.state }) counts cells
@@ -66,7 +88,7 @@ module _ {V : Type 0} {G : Ghosts V} (k : Meaning) (j : Job V G) (ns counts cell
   drives_told a out left ea eo el p r v u h = lent_same _ _ _ _ _ _ ea eo el ∙ ap₂ drives_as h.holds.codes (drives_translated k seq p r ns h.holds)
 
   pub drive_lawful : Lawful k → (p : Program) (r v u : ℕ) → HasTranslation k j p r v u → LawfulCodes k (drives.cells_of p (drive k p r ns).state)
-  drive_lawful laws p r v u h = drive_codes k laws p h.exists r ns
+  drive_lawful laws p r v u h = drive_codes k laws p h.session.exists r ns
 
 -- what was found last, by where it was found
 nowhere : (o : Option Latest) → place o ≡ None → as_failing o ≡ None

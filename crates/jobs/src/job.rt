@@ -1,9 +1,8 @@
 // The job.
+use crate::session::Session;
 use guesses::machine::SequentialMachine;
 use kinds::Kind;
 use sequences::point::SeqPoint;
-use threads::machine::Machine;
-use threads::point::Point;
 use walks::walk::Walk;
 
 mod drives;
@@ -20,13 +19,11 @@ pub enum Stage {
     Translated,
 }
 
-// The stage says which of the rest means something: the table from Loaded on, the sequential program and the two walks
-// where it is Translated. All of them are there from the start, since no call but making the job may want memory.
+// A session, and beside it the sequential program and the walk over its guess lists. These mean something where the session
+// is Translated. All is there from the start, since no call but making the job may want memory.
 #[derive(Drop)]
 pub struct Job<V: Kind> {
-    pub(crate) stage: Stage,
-    pub(crate) threads: Machine<V>,
+    pub(crate) session: Session<V>,
     pub(crate) sequential: SequentialMachine<V>,
     pub(crate) walk: Walk<SeqPoint>,
-    pub(crate) survey: Walk<Point>,
 }

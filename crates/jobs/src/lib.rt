@@ -2,3 +2,4 @@
 #![tactic(auto)]
 
 pub mod job;
+pub mod session;

@@ -1,3 +1,4 @@
 mod Hexes
 mod Cells
 mod Replying
+mod Opening

@@ -1,10 +1,13 @@
--- What a job answers to a call, from its model.
-use Rattle.std.specs.Prelude.{ℕ, List, length, replicate, Some, None, Ok, Err, vec_items, Option, Result}
+-- What a session answers to a call, from its model, and from what it holds.
+use Rattle.std.specs.Prelude.{◌≡◌, ℕ, List, length, replicate, Some, None, Ok, Err, vec_items, Option, Result}
 use Rattle.kinds.specs.Meaning.{Meaning}
 use Rattle.agreement.specs.Agreement.{Told, play_told}
 use Rattle.walks.specs.declared.counts.Counts.{Counts}
 use Rattle.jobs.specs.Models as jobs
-use Rattle.jobs.specs.Models.{Model, translate_answer, survey_reply}
+use Rattle.jobs.specs.Models.{Model, first_no, translate_answer, survey_reply}
+use Rattle.jobs.specs.Sessions.{Held, holds, settled, stage_loaded, stage_translated, else, rounds_answer}
+use Rattle.jobs.specs.declared.job.Stage.TheVariants as stage
+use Rattle.tables.specs.Program.{decoded}
 use Rattle.questions.specs.Question.{question}
 use Rattle.records.specs.Wrote.{counted}
 use Rattle.records.specs.declared.refusal.LoadError.{LoadError}
@@ -83,10 +86,34 @@ reply k m (Survey b) = survey_said (survey_reply k m b)
 reply k m (Play ns counts cells) = played_by k m (vec_items ns) counts cells
 reply k m (Save room) = saved_by k m room
 
--- the job behind a call
+-- the session behind a call
 abbrev pub next : Meaning → Model → Call → Model
 next k m (Load file) = jobs.next k m (jobs.load (vec_items file))
 next k m (Translate rounds) = jobs.next k m (jobs.translate rounds)
 next k m (Survey b) = jobs.next k m (jobs.survey b)
 next k m (Play ns counts cells) = m
 next k m (Save room) = m
+
+-- The same of any session, from the stage, the program and the rounds that it holds.
+abbrev pub held_play : Meaning → Held → List ℕ → ℕ → ℕ → Said
+held_play k h ns counts cells =
+    play_said (first_no (stage_translated h.stage) (refusal ns (replicate counts 0) (replicate cells 0) (length h.program.cells))) (play_told k h.program h.rounds ns)
+
+abbrev pub held_save : Meaning → Held → ℕ → Said
+held_save k h room = save_said (encoded k.byte h.program) (else (stage_loaded h.stage) (counted (replicate room 0) (encoded k.byte h.program)))
+
+-- what is said to a call; how far the walk has come, and so what a survey says, is not to be seen from what is held
+abbrev pub Answers : Meaning → Held → Call → Said → Type 0
+Answers k h (Load file) a = a ≡ load_said (question k (vec_items file))
+Answers k h (Translate rounds) a = a ≡ translate_said (rounds_answer h.stage rounds)
+Answers k h (Survey b) a = Unit {0}
+Answers k h (Play ns counts cells) a = a ≡ held_play k h (vec_items ns) counts cells
+Answers k h (Save room) a = a ≡ held_save k h room
+
+-- what is held behind a call
+abbrev pub held_next : Meaning → Held → Call → Held
+held_next k h (Load file) = settled (question k (vec_items file)) (holds stage.Loaded (decoded (vec_items file)) h.rounds) h
+held_next k h (Translate rounds) = settled (rounds_answer h.stage rounds) (holds stage.Translated h.program rounds) h
+held_next k h (Survey b) = h
+held_next k h (Play ns counts cells) = h
+held_next k h (Save room) = h

@@ -1,5 +1,5 @@
 -- What a walk answers, for any runner: its questions, and the counts of the leaves visited.
-use Rattle.std.specs.Prelude.{◌≡◌, ℕ, ◌+◌, min, Bool, cond, ◌&&◌, ◌||◌, List, length, take, Some, None, Option, Result, ◌==◌, nat_le}
+use Rattle.std.specs.Prelude.{◌≡◌, ℕ, ◌+◌, min, Bool, cond, ◌&&◌, ◌||◌, List, length, take, Some, None, Ok, Err, Option, Result, ◌==◌, nat_le}
 use Rattle.records.specs.declared.refusal.Refusal.{Refusal}
 use Rattle.records.specs.declared.refusal.Refusal.TheVariants.{Budget, LeafLimit}
 use Rattle.reports.specs.Reports.{answered, unless}
@@ -8,7 +8,8 @@ use Rattle.walks.specs.declared.outcome.Outcome.{Outcome}
 use Rattle.walks.specs.declared.walk.Walk.{Walk}
 use Rattle.walks.specs.Leaves.{leaves}
 use Rattle.walks.specs.Tallies.{fails, cuts, fills, count, visited}
-use Rattle.walks.specs.Walks.{Tied, answer_at}
+use Rattle.walks.specs.Counts.{tally_counts}
+use Rattle.walks.specs.Walks.{Tied, Advanced, answer_at}
 
 -- the walk's cursor says that no leaf is left
 abbrev pub over : {P : Type 0} → Walk P → Bool
@@ -60,3 +61,11 @@ pub record Walked {P : Type 0} (out : List ℕ → Outcome) (stands : P → List
   pub tied : Tied out stands x
   pub answer : a ≡ walk_answer out (visited w.tally) b
   pub visited : visited x.tally ≡ walk_next out (visited w.tally) b
+
+-- From the walk w to x by a call for b more leaves, answered so: the first no, which leaves the walk as it was, or the counts
+-- of its tally. So much holds of any walk; of one that is tied to a ready runner's leaves, where it has gone.
+abbrev pub Went : {P : Type 0} → Type 0 → (List ℕ → Outcome) → (P → List ℕ → Type 0) → Walk P → ℕ → Walk P → Result Counts Refusal → Type 0
+Went ready out stands w b x (Err e) = (limit_no (over w) (visited w.tally) b ≡ Some e) × (x ≡ w)
+Went ready out stands w b x (Ok c) =
+    (limit_no (over w) (visited w.tally) b ≡ None) × (c ≡ tally_counts c.answer x.tally)
+    × (ready → Tied out stands w → Advanced out stands w x (visits (over w) b) c.answer)

@@ -2,7 +2,7 @@
 ghost use Rattle.std.specs.Prelude.{◌≡◌, ◌+◌, ◌^◌, ◌<◌};
 ghost use Rattle.walks.specs.Tallies.{visited};
 ghost use Rattle.walks.specs.Walks.{Tied};
-ghost use Rattle.reports.specs.Counts.{yes_or, over, limit_no, visits, Walked};
+ghost use Rattle.reports.specs.Counts.{yes_or, over, limit_no, visits, Walked, Went};
 
 use records::refusal::Refusal;
 use walks::counts::Counts;
@@ -43,7 +43,8 @@ pub fn go_on<P: Copy, R: Runner<Point = P>>(
     r: &R,
     b: u32,
 ) -> Result<Counts, Refusal>
-    ensures { R.ready r.now → Tied (R.outcome r.now) (R.stands r.now) walk.old → Walked (R.outcome r.now) (R.stands r.now) walk.old b walk.new result }
+    ensures walked { R.ready r.now → Tied (R.outcome r.now) (R.stands r.now) walk.old → Walked (R.outcome r.now) (R.stands r.now) walk.old b walk.new result }
+    ensures went { Went (R.ready r.now) (R.outcome r.now) (R.stands r.now) walk.old b walk.new result }
 {
     asked(walk, b)?;
     let answer = walk.advance(r, visits_of(walk, b));

@@ -19,7 +19,7 @@ impl<V: Kind> Job<V> {
         ensures answer { (m : Model) → Keeps V.meaning self.now m → lent_as result counts.new cells.new ≡ drive_reply V.meaning m numbers.now counts.old cells.old }
         ensures lawful { (m : Model) → Keeps V.meaning self.now m → LawfulDrive V.meaning m numbers.now }
     {
-        match self.stage {
+        match self.session.stage {
             Stage::Empty | Stage::Loaded => Err(Refusal::NotTranslated),
             Stage::Translated => self.sequential.sequence.drive(numbers, counts, cells),
         }

@@ -13,21 +13,18 @@ impl<V: Kind> Job<V> {
     pub fn save(&self, out: &mut [u8]) -> Result<usize, Refusal>
         ensures { (m : Model) → Keeps V.meaning self.now m → written_as result out.new ≡ save_reply V.meaning m out.old }
     {
-        match self.stage {
-            Stage::Empty => Err(Refusal::NotLoaded),
-            Stage::Loaded | Stage::Translated => self.threads.table.save::<V>(out),
-        }
+        self.session.save(out)
     }
 
     // Emit: writes the sequential program's file to the front of the buffer, and answers its length.
     pub fn emit(&self, out: &mut [u8]) -> Result<usize, Refusal>
         ensures { (m : Model) → Keeps V.meaning self.now m → written_as result out.new ≡ emit_reply V.meaning m out.old }
     {
-        match self.stage {
+        match self.session.stage {
             Stage::Empty | Stage::Loaded => Err(Refusal::NotTranslated),
             Stage::Translated => emit(
-                &self.threads.table,
-                self.threads.rounds,
+                &self.session.machine.table,
+                self.session.machine.rounds,
                 &self.sequential.sequence,
                 out,
             ),

@@ -41,7 +41,7 @@ impl<V: Kind> Job<V> {
     pub fn found(&self, guesses: &mut [u8], schedule: &mut [u8]) -> Result<usize, Refusal>
         ensures { (m : Model) → Keeps V.meaning self.now m → shown_as result guesses.new schedule.new ≡ found_reply V.meaning m guesses.old schedule.old }
     {
-        match self.stage {
+        match self.session.stage {
             Stage::Empty | Stage::Loaded => Err(Refusal::NotTranslated),
             Stage::Translated => match self.walk.found() {
                 None => Err(Refusal::NothingFound),

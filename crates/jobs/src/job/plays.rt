@@ -13,9 +13,9 @@ impl<V: Kind> Job<V> {
     pub fn cells(&self) -> usize
         ensures { (m : Model) → Keeps V.meaning self.now m → result ≡ cell_count m }
     {
-        match self.stage {
+        match self.session.stage {
             Stage::Empty => 0,
-            Stage::Loaded | Stage::Translated => self.threads.table.cells().len(),
+            Stage::Loaded | Stage::Translated => self.session.cells(),
         }
     }
 
@@ -29,9 +29,6 @@ impl<V: Kind> Job<V> {
         ensures answer { (m : Model) → Keeps V.meaning self.now m → lent_as result counts.new cells.new ≡ play_reply V.meaning m numbers.now counts.old cells.old }
         ensures lawful { (m : Model) → Keeps V.meaning self.now m → LawfulPlay V.meaning m numbers.now }
     {
-        match self.stage {
-            Stage::Empty | Stage::Loaded => Err(Refusal::NotTranslated),
-            Stage::Translated => self.threads.play(numbers, counts, cells),
-        }
+        self.session.play(numbers, counts, cells)
     }
 }

@@ -14,7 +14,7 @@ impl<V: Kind> Job<V> {
     pub fn walk(&mut self, b: u32) -> Result<Counts, Refusal>
         ensures { (m : Model) → Keeps V.meaning self.old m → (result ≡ walk_reply V.meaning m b) × Keeps V.meaning self.new (next V.meaning m (walk b)) }
     {
-        match self.stage {
+        match self.session.stage {
             Stage::Empty | Stage::Loaded => Err(Refusal::NotTranslated),
             Stage::Translated => go_on(&mut self.walk, &self.sequential, b),
         }
@@ -24,9 +24,6 @@ impl<V: Kind> Job<V> {
     pub fn survey(&mut self, b: u32) -> Result<Counts, Refusal>
         ensures { (m : Model) → Keeps V.meaning self.old m → (result ≡ survey_reply V.meaning m b) × Keeps V.meaning self.new (next V.meaning m (survey b)) }
     {
-        match self.stage {
-            Stage::Empty | Stage::Loaded => Err(Refusal::NotTranslated),
-            Stage::Translated => go_on(&mut self.survey, &self.threads, b),
-        }
+        self.session.survey(b)
     }
 }

@@ -1,7 +1,9 @@
-use Rattle.jobs.proofs.Standing.{with_translation, survey_goes}
+use Rattle.jobs.proofs.Standing.{session_keeps, surveyed_with}
 use Rattle.jobs.proofs.job.Job.survey.Goals as goal
 
-pub returns-in-Translated : goal.returns-in-Translated
-returns-in-Translated g c =
+pub returns : goal.returns
+returns g c m h =
     let k = g.V.Kind.meaning in
-    with_translation k c.args.self.now _ c.in-Translated.is (survey_goes k c.args.self.now c.args.b c.go_on.new.walk c.go_on.result c.go_on.ensures)
+    let j = c.args.self.now in
+    let goes = c.survey.ensures.goes m (session_keeps k j m h) in
+    (goes.0, surveyed_with k j c.survey.new.self c.args.b m h goes.1)
