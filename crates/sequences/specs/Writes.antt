@@ -1,7 +1,6 @@
 -- The translation as it is written: piece by piece, into a room of its own.
-use Rattle.std.specs.Prelude.{ℕ, ◌+◌, ◌<◌, ◌≤◌, Bool, cond, List, [], ◌∷◌, ◌++◌, Some, None, Option}
+use Rattle.std.specs.Prelude.{ℕ, ◌+◌, ◌<◌, ◌≤◌, Bool, cond, List, [], ◌∷◌, ◌++◌}
 use Rattle.std.specs.List.{AllByRecursion}
-use Rattle.records.specs.declared.statement.Label.{Label}
 use Rattle.records.specs.declared.statement.Statement.{Statement}
 use Rattle.records.specs.declared.statement.Statement.TheVariants.{Set, Copy, Sum, Difference, Less, Same, Jump, Branch, Assume, Assert, Init, Destroy, Lock, Unlock, Create, Join}
 use Rattle.tables.specs.Program.{Program, size}
@@ -31,25 +30,6 @@ width (Join j) = 1
 -- the address behind the guard that a label may have at an address
 abbrev pub beyond : Bool → ℕ → ℕ
 beyond g h = cond g (h + 1) h
-
--- the label that a jump names
-abbrev pub target : Statement → Option Label
-target (Set d c) = None
-target (Copy d a) = None
-target (Sum d a b) = None
-target (Difference d a b) = None
-target (Less d a b) = None
-target (Same d a b) = None
-target (Jump t) = Some t
-target (Branch a t) = Some t
-target (Assume a) = None
-target (Assert a) = None
-target (Init m) = None
-target (Destroy m) = None
-target (Lock m) = None
-target (Unlock m) = None
-target (Create j) = None
-target (Join j) = None
 
 -- the words that the statement names have numbers below 256
 abbrev pub Low : Statement → Type 0

@@ -1,20 +1,21 @@
 // Where the labels of a thread's section stand.
 ghost use Rattle.std.specs.Prelude.{◌≡◌, ℕ, ◌+◌, ◌^◌, ◌<◌, ◌≤◌, length, slice_index};
 ghost use Rattle.tables.specs.Program.{Program};
-ghost use Rattle.sequences.specs.Code.{guarded as is_guarded, address_of};
-ghost use Rattle.sequences.specs.Writes.{width as width_of, target as target_of, beyond};
+ghost use Rattle.sequences.specs.Code.{names as names_label, guarded as is_guarded, address_of};
+ghost use Rattle.sequences.specs.Writes.{width as width_of, beyond};
 
 use crate::instruction::Address;
 use records::statement::{Label, Statement};
 
-// The label that a jump names.
-fn target(x: Statement) -> Option<Label>
-    ensures { result ≡ target_of x }
+// Whether a statement is a jump to the label `t`. A bool by cases: this is asked of each statement for each label, and an
+// Option that is compared took half as long again.
+fn names(x: Statement, t: Label) -> bool
+    ensures { result ≡ names_label t.0 x }
 {
     match x {
-        Statement::Jump { t } => Some(t),
-        Statement::Branch { a: _, t } => Some(t),
-        _ => None,
+        Statement::Jump { t: u } => u.0 == t.0,
+        Statement::Branch { a: _, t: u } => u.0 == t.0,
+        _ => false,
     }
 }
 
@@ -22,7 +23,7 @@ fn target(x: Statement) -> Option<Label>
 fn guarded(text: &[Statement], t: Label) -> bool
     ensures { result ≡ is_guarded text.now t.0 }
 {
-    text.iter().any(|x| target(*x) == Some(t))
+    text.iter().any(|x| names(*x, t))
 }
 
 // How many instructions a statement has.
