@@ -6,7 +6,7 @@ ghost use Rattle.threads.specs.Slots.{run, ran, slot_of, counted};
 use crate::step::step;
 use kinds::Kind;
 use records::statement::Thread;
-use reports::report::SlotCount;
+pub use reports::report::SlotCount;
 use reports::stop::Stop;
 use states::state::State;
 use tables::table::Table;
