@@ -4,7 +4,7 @@ ghost use Rattle.std.specs.List.{AllByRecursion};
 ghost use Rattle.tables.specs.Program.{own};
 ghost use Rattle.tables.specs.Slots.{slot_total};
 ghost use Rattle.tables.specs.Tables.{view};
-ghost use Rattle.sequences.specs.Code.{inner, address_in, section as section_code, driver as driver_code};
+ghost use Rattle.sequences.specs.Code.{inner, guards, guarded as is_guarded, address_in, section as section_code, driver as driver_code};
 ghost use Rattle.sequences.specs.Writes.{Low, hop_code, label_code, slot_code};
 
 use crate::instruction::{Address, Instruction, Word};
@@ -90,6 +90,17 @@ impl<'a> Writer<'a> {
         }
     }
 
+    // The guard of a label, if it has one.
+    fn write_guard(&self, code: &mut Sections, t: Label)
+        ensures { code.new ≡ take 1936 (code.old ++ guards (is_guarded self.now.layout.text.now t.0) t.0) }
+    {
+        // Without a guard the code stays as it is, and `len` alone says that it fits.
+        let _few = code.len();
+        if self.layout.guarded(t) {
+            code.push(Instruction::Guard { t });
+        }
+    }
+
     // The label `l`, whose statement is `x`, with the guard of the next label, if that has one.
     fn write_label(&self, code: &mut Sections, l: u8, x: Statement)
         requires { l < 255 }
@@ -97,10 +108,7 @@ impl<'a> Writer<'a> {
     {
         code.push(self.hop(l));
         self.write_statement(code, x);
-        let t = Label(l + 1);
-        if self.layout.guarded(t) {
-            code.push(Instruction::Guard { t });
-        }
+        self.write_guard(code, Label(l + 1));
     }
 }
 
