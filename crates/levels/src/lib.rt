@@ -56,7 +56,10 @@ impl Kind for Level {
 #[cfg(test)]
 mod tests {
     use crate::{Kind, Level};
+    use hosts::numbers::numbers_of;
     use jobs::job::Job;
+    use jobs::session::Session;
+    use records::reserved::Reserved;
     use std::test::Fail;
 
     // Cell 0 starts at level 1, which does not hold. Thread 0 creates thread 1 and raises the cell to 2; thread 1 asserts it.
@@ -85,6 +88,39 @@ mod tests {
         let mut schedule = [0; 2];
         assert!(rt; job.found(&mut guesses, &mut schedule).is_ok());
         assert_eq!(rt; schedule, [1, 1]);
+        Ok(())
+    }
+
+    // The same on a session, by its schedules.
+    #[test]
+    fn one_schedule_of_a_session_fails(rt: HostRuntime) -> Result<(), Fail> {
+        let mut session: Session<Level> = Session::new(rt.alloc())?;
+        assert!(rt; session.load(&FILE).is_ok());
+        assert!(rt; session.translate(1).is_ok());
+        let Ok(survey) = session.survey(100) else {
+            return Err(Fail::new("Survey is refused"));
+        };
+        assert_eq!(rt; survey.failed, 1);
+        assert_eq!(rt; survey.full, 4);
+        Ok(())
+    }
+
+    // A list takes as many items as it was reserved for.
+    #[test]
+    fn a_reserved_list_is_full(rt: HostRuntime) -> Result<(), Fail> {
+        let mut list: Reserved<u8, 2> = Reserved::new(rt.alloc())?;
+        list.extend_from_slice(&[7, 8]);
+        list.push(9);
+        assert_eq!(rt; list.len(), 2);
+        Ok(())
+    }
+
+    #[test]
+    fn two_words_are_two_numbers(rt: HostRuntime) -> Result<(), Fail> {
+        let Some(numbers) = numbers_of(rt.alloc(), &["2", "255"])? else {
+            return Err(Fail::new("a word is no number"));
+        };
+        assert_eq!(rt; numbers.len(), 2);
         Ok(())
     }
 }
