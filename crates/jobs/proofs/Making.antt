@@ -7,7 +7,7 @@ use Rattle.kinds.specs.Meaning.{Meaning}
 use Rattle.questions.specs.Question.{question}
 use Rattle.records.specs.declared.refusal.LoadError.{LoadError}
 use Rattle.records.specs.declared.refusal.Refusal.{Refusal}
-use Rattle.records.specs.declared.refusal.Refusal.TheVariants.{Rounds, NotLoaded}
+use Rattle.records.specs.declared.refusal.Refusal.TheVariants.{Rounds}
 use Rattle.tables.specs.declared.table.Table.{Table}
 use Rattle.tables.specs.Program.{Program}
 use Rattle.tables.specs.Tables.{view}
@@ -92,18 +92,14 @@ module _ {V : Type 0} {G : Ghosts V} (k : Meaning) (s : Session V G) where
 
 -- what a session answers to Translate, by its stage and by its model
 module _ {V : Type 0} {G : Ghosts V} (k : Meaning) (s : Session V G) where
+  asks : (b : Bool) → cond {A = Result (Unit {0}) Refusal} b (Ok tt) (Err Rounds) ≡ yes_or (cond b None (Some Rounds))
+  asks true = refl
+  asks false = refl
+
   by_rounds : (st : Stage) (r : ℕ) → (st ≡ Empty → ⊥) → rounds_answer st r ≡ yes_or (rounds_no r)
   by_rounds Empty r some = absurd (some refl)
   by_rounds Loaded r some = asks (few r)
-    where
-      asks : (b : Bool) → cond {A = Result (Unit {0}) Refusal} b (Ok tt) (Err Rounds) ≡ yes_or (cond b None (Some Rounds))
-      asks true = refl
-      asks false = refl
   by_rounds Translated r some = asks (few r)
-    where
-      asks : (b : Bool) → cond {A = Result (Unit {0}) Refusal} b (Ok tt) (Err Rounds) ≡ yes_or (cond b None (Some Rounds))
-      asks true = refl
-      asks false = refl
 
   pub rounds_answered : (r : ℕ) (m : Model) → KeepsSession k s m → rounds_answer s.stage r ≡ translate_answer m r
   rounds_answered r empty h = ap (λ st. rounds_answer st r) h
@@ -111,19 +107,15 @@ module _ {V : Type 0} {G : Ghosts V} (k : Meaning) (s : Session V G) where
   rounds_answered r (translated p n v u) h = by_rounds s.stage r (λ e. apart s.stage Translated (inr (inl (e, refl))) h.stage)
 
 module _ {V : Type 0} {G : Ghosts V} (k : Meaning) (j : Job V G) where
+  stays : (e : Refusal) (b : Bool) (m m' : Model) → Err e ≡ yes_or (cond b None (Some Rounds)) → cond b m' m ≡ m
+  stays e true m m' q = absurd (let z : ◌≡◌ {A = ℕ} 0 1 = cc in omega arith)
+  stays e false m m' q = refl
+
   -- Translate is refused: the model stays
   refused_same : (e : Refusal) (m : Model) (r : ℕ) → Err e ≡ translate_answer m r → translate_next m r ≡ m
   refused_same e empty r = λ q. refl
-  refused_same e (loaded p) r = decide (few r)
-    where
-      decide : (b : Bool) → Err e ≡ yes_or (cond b None (Some Rounds)) → cond b (translated p r 0 0) (loaded p) ≡ loaded p
-      decide true q = absurd (let z : ◌≡◌ {A = ℕ} 0 1 = cc in omega arith)
-      decide false q = refl
-  refused_same e (translated p n v u) r = decide (few r)
-    where
-      decide : (b : Bool) → Err e ≡ yes_or (cond b None (Some Rounds)) → cond b (translated p r 0 0) (translated p n v u) ≡ translated p n v u
-      decide true q = absurd (let z : ◌≡◌ {A = ℕ} 0 1 = cc in omega arith)
-      decide false q = refl
+  refused_same e (loaded p) r = stays e (few r) (loaded p) (translated p r 0 0)
+  refused_same e (translated p n v u) r = stays e (few r) (translated p n v u) (translated p r 0 0)
 
   pub job_refused : (x : Session V G) (e : Refusal) (m : Model) (r : ℕ) → Err e ≡ translate_answer m r → Keeps k j m → KeepsSession k x (translate_next m r) → Keeps k (record { session = x; sequential = j.sequential; walk = j.walk }) (translate_next m r)
   job_refused x e m r q h g =
@@ -132,15 +124,11 @@ module _ {V : Type 0} {G : Ghosts V} (k : Meaning) (j : Job V G) where
 
 -- Translate is answered: whatever session is translated so, the job is
 module _ {V : Type 0} {G : Ghosts V} (k : Meaning) (x : Session V G) (j : Job V G) (make : (p : Program) (r u : ℕ) → HasSchedules k x p r u → HasTranslation k j p r 0 u) where
+  goes : (p : Program) (r : ℕ) (b : Bool) (m : Model) → Ok tt ≡ yes_or (cond b None (Some Rounds)) → KeepsSession k x (cond b (translated p r 0 0) m) → Keeps k j (cond b (translated p r 0 0) m)
+  goes p r true m q h = make p r 0 h
+  goes p r false m q h = absurd (let z : ◌≡◌ {A = ℕ} 0 1 = cc in omega arith)
+
   pub job_made : (m : Model) (r : ℕ) → Ok tt ≡ translate_answer m r → KeepsSession k x (translate_next m r) → Keeps k j (translate_next m r)
   job_made empty r = λ q h. absurd (let z : ◌≡◌ {A = ℕ} 0 1 = cc in omega arith)
-  job_made (loaded p) r = decide (few r)
-    where
-      decide : (b : Bool) → Ok tt ≡ yes_or (cond b None (Some Rounds)) → KeepsSession k x (cond b (translated p r 0 0) (loaded p)) → Keeps k j (cond b (translated p r 0 0) (loaded p))
-      decide true q h = make p r 0 h
-      decide false q h = absurd (let z : ◌≡◌ {A = ℕ} 0 1 = cc in omega arith)
-  job_made (translated p n v u) r = decide (few r)
-    where
-      decide : (b : Bool) → Ok tt ≡ yes_or (cond b None (Some Rounds)) → KeepsSession k x (cond b (translated p r 0 0) (translated p n v u)) → Keeps k j (cond b (translated p r 0 0) (translated p n v u))
-      decide true q h = make p r 0 h
-      decide false q h = absurd (let z : ◌≡◌ {A = ℕ} 0 1 = cc in omega arith)
+  job_made (loaded p) r = goes p r (few r) (loaded p)
+  job_made (translated p n v u) r = goes p r (few r) (translated p n v u)

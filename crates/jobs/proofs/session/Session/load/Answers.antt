@@ -1,5 +1,4 @@
-use Rattle.std.proofs.Common.{◌≡◌, Err, Result, refl, ◌∙◌, rules}
-use Rattle.records.specs.declared.refusal.LoadError.{LoadError}
+use Rattle.std.proofs.Common.{refl}
 use Rattle.jobs.proofs.Making.{load_refused}
 use Rattle.jobs.proofs.session.Session.load.Goals as goal
 
