@@ -1,28 +1,18 @@
 // A cursor begins, and goes on past a leaf.
-ghost use Rattle.std.specs.Prelude.{◌≡◌, replicate};
-ghost use Rattle.walks.specs.Paths.{levels, points, first, turned, left};
+ghost use Rattle.std.specs.Prelude.{◌≡◌};
+ghost use Rattle.walks.specs.Paths.{levels, points, first_depth as depth_of, turned, left};
 
-use crate::cursor::{Cursor, Level};
+use crate::cursor::Cursor;
 use crate::outcome::{Ending, Outcome};
 
 impl<P: Copy> Cursor<P> {
-    // One level, if the empty list is open, and else none.
-    pub fn first(outcome: Outcome, point: P) -> Cursor<P>
-        ensures path { levels result ≡ first outcome }
-        ensures points { points result ≡ replicate 65 point }
+    // How many levels there are at first: one if the empty list is open, and else none.
+    pub fn first_depth(outcome: Outcome) -> usize
+        ensures { result ≡ depth_of outcome }
     {
-        let level = Level {
-            bound: outcome.bound(),
-            point,
-        };
-        let depth = match outcome {
+        match outcome {
             Outcome::Open(_) => 1,
             Outcome::Ended(_) => 0,
-        };
-        Cursor {
-            numbers: [0; 64],
-            levels: [level; 65],
-            depth,
         }
     }
 

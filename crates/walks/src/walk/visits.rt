@@ -5,7 +5,7 @@ ghost use Rattle.walks.specs.Leaves.{leaves, Complete};
 ghost use Rattle.walks.specs.Tallies.{visited, tallied, nothing};
 ghost use Rattle.walks.specs.Walks.{Tied, Visited, Advanced, and_one};
 
-use crate::cursor::Cursor;
+use crate::cursor::{Cursor, Level};
 use crate::outcome::Ending;
 use crate::runner::Runner;
 use crate::tally::Tally;
@@ -19,8 +19,17 @@ impl<P: Copy> Walk<P> {
         ensures complete { R.ready r.now → Complete (R.outcome r.now) (leaves (R.outcome r.now)) }
     {
         let (outcome, point) = r.start();
+        let level = Level {
+            bound: outcome.bound(),
+            point,
+        };
+        // All in one: a cursor that a function gives is copied once more, and it has 65 points.
         Walk {
-            cursor: Cursor::first(outcome, point),
+            cursor: Cursor {
+                numbers: [0; 64],
+                levels: [level; 65],
+                depth: Cursor::<P>::first_depth(outcome),
+            },
             tally: Tally::new(),
         }
     }

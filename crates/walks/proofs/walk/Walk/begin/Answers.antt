@@ -1,4 +1,4 @@
-use Rattle.std.proofs.Common.{[], get_or, sym, subst}
+use Rattle.std.proofs.Common.{[], get_or, sym, subst, rules}
 use Rattle.walks.proofs.Rows.{complete}
 use Rattle.walks.proofs.Visits.{begun}
 use Rattle.walks.proofs.walk.Walk.begin.Goals as goal
@@ -8,8 +8,7 @@ returns-clause-tied g c =
     let m = g.R.Runner in
     let r = c.args.r.now in
     let told = c.start-outcome.ensures in
-    begun (m.outcome r) (m.stands r) _ c.start-outcome.result.0 (sym told.outcome) c.first.ensures.path c.new.ensures
-    (λ opens x. subst (λ ps. m.stands r (get_or ps 0 x) []) (sym c.first.ensures.points) (told.stands opens))
+    begun (m.outcome r) (m.stands r) _ c.start-outcome.result.0 (sym told.outcome) (search rules) c.new.ensures (λ opens x. told.stands opens)
 
 pub returns-clause-complete : goal.returns-clause-complete
 returns-clause-complete g c ready =
