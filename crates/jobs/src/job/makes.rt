@@ -6,13 +6,15 @@ ghost use Rattle.jobs.specs.Keeps.{Keeps, HasSchedules, HasTranslation};
 ghost use Rattle.jobs.specs.Models.{Model, empty, next, load, translate, translate_answer};
 ghost use Rattle.jobs.specs.Promises.{CountsAgree};
 
-use crate::job::Job;
+use crate::job::{Job, Stage};
 use crate::session::Session;
 use guesses::machine::SequentialMachine;
 use kinds::Kind;
 use records::refusal::{LoadError, Refusal};
 use sequences::sequence::Sequence;
 use std::alloc::{AllocError, Global};
+use tables::table::Table;
+use threads::machine::Machine;
 use walks::walk::Walk;
 
 impl<V: Kind> Job<V> {
@@ -27,11 +29,18 @@ impl<V: Kind> Job<V> {
     fn make(heap: Global) -> Result<Job<V>, AllocError>
         ensures { IfOk result (λ j. Keeps V.meaning j empty) }
     {
-        let session = Session::new(heap)?;
+        let machine = Machine::new(Table::new(heap)?);
         let sequential = SequentialMachine {
             sequence: Sequence::new(heap)?,
         };
         let walk = Walk::begin(&sequential);
+        let survey = Walk::begin(&machine);
+        // Not by `Session::new`, whose answer is copied twice more, with a walk in it.
+        let session = Session {
+            stage: Stage::Empty,
+            machine,
+            survey,
+        };
         Ok(Job {
             session,
             sequential,
