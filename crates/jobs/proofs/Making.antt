@@ -27,7 +27,7 @@ use Rattle.reports.specs.Counts.{yes_or}
 use Rattle.jobs.specs.Keeps.{Keeps, KeepsSession, HasSchedules, HasTranslation, threads_outcome}
 use Rattle.jobs.specs.Models.{Model, empty, loaded, translated, few, rounds_no, load_next, translate_answer, translate_next}
 use Rattle.jobs.specs.Sessions.{rounds_answer}
-use Rattle.jobs.proofs.Standing.{apart, keeps_with}
+use Rattle.jobs.proofs.Standing.{apart, session_keeps, keeps_with}
 
 few_false : (r : ℕ) (e : Refusal) → Err e ≡ rounds_asked r → (few r ≡ false) × (e ≡ Rounds)
 few_false r e = decide (few r)
@@ -55,12 +55,12 @@ module _ {V : Type 0} {G : Ghosts V} (k : Meaning) (s : Session V G) where
       subst (λ a. KeepsSession k (with_machine (with_table t le)) (load_next a f m)) q
       (subst (λ x. KeepsSession k (with_machine (with_table x le)) m) (sym et) (subst (λ x. KeepsSession k (with_machine (with_table s.machine.table x)) m) (le_prop s.machine.few le) h))
 
-  pub translate_refused : (t : Machine V G) (r : ℕ) (e : Refusal) → t ≡ s.machine → Err e ≡ rounds_asked r → (m : Model) → KeepsSession k s m → KeepsSession k (with_machine t) (translate_next m r)
-  translate_refused t r e et q empty h = h
-  translate_refused t r e et q (loaded p) h =
+  pub session_refused : (t : Machine V G) (r : ℕ) (e : Refusal) → t ≡ s.machine → Err e ≡ rounds_asked r → (m : Model) → KeepsSession k s m → KeepsSession k (with_machine t) (translate_next m r)
+  session_refused t r e et q empty h = h
+  session_refused t r e et q (loaded p) h =
       let f = few_false r e q in
       subst (λ b. KeepsSession k (with_machine t) (cond b (translated p r 0 0) (loaded p))) (sym f.0) (subst (λ x. KeepsSession k (with_machine x) (loaded p)) (sym et) h)
-  translate_refused t r e et q (translated p n v u) h =
+  session_refused t r e et q (translated p n v u) h =
       let f = few_false r e q in
       subst (λ b. KeepsSession k (with_machine t) (cond b (translated p r 0 0) (translated p n v u))) (sym f.0) (subst (λ x. KeepsSession k (with_machine x) (translated p n v u)) (sym et) h)
 
@@ -85,10 +85,10 @@ module _ {V : Type 0} {G : Ghosts V} (k : Meaning) (s : Session V G) where
           surveyed = none;
         }
 
-    pub translate_made : (s.stage ≡ Empty → ⊥) → (m : Model) → KeepsSession k s m → KeepsSession k (begun t w) (translate_next m r)
-    translate_made some empty h = absurd (some h)
-    translate_made some (loaded p) h = subst (λ b. KeepsSession k (begun t w) (cond b (translated p r 0 0) (loaded p))) (sym (few_true r q)) (made p h.program h.exists)
-    translate_made some (translated p n v u) h = subst (λ b. KeepsSession k (begun t w) (cond b (translated p r 0 0) (translated p n v u))) (sym (few_true r q)) (made p h.program h.exists)
+    pub session_made : (s.stage ≡ Empty → ⊥) → (m : Model) → KeepsSession k s m → KeepsSession k (begun t w) (translate_next m r)
+    session_made some empty h = absurd (some h)
+    session_made some (loaded p) h = subst (λ b. KeepsSession k (begun t w) (cond b (translated p r 0 0) (loaded p))) (sym (few_true r q)) (made p h.program h.exists)
+    session_made some (translated p n v u) h = subst (λ b. KeepsSession k (begun t w) (cond b (translated p r 0 0) (translated p n v u))) (sym (few_true r q)) (made p h.program h.exists)
 
 -- what a session answers to Translate, by its stage and by its model
 module _ {V : Type 0} {G : Ghosts V} (k : Meaning) (s : Session V G) where
@@ -132,3 +132,42 @@ module _ {V : Type 0} {G : Ghosts V} (k : Meaning) (x : Session V G) (j : Job V 
   job_made empty r = λ q h. absurd (let z : ◌≡◌ {A = ℕ} 0 1 = cc in omega arith)
   job_made (loaded p) r = goes p r (few r) (loaded p)
   job_made (translated p n v u) r = goes p r (few r) (translated p n v u)
+
+-- Translate on a job, from its machine alone: refused, which leaves what the model says, or answered, and then any job x that
+-- has the translation is as the next model says. `Job::translate` has both by its session, from `job_refused` and `job_made`.
+module _ {V : Type 0} {G : Ghosts V} (k : Meaning) (j : Job V G) where
+  abbrev with_threads : Machine V G → Job V G
+  with_threads t = record { session = with_machine k j.session t; sequential = j.sequential; walk = j.walk }
+
+  -- behind a stage that has a program, the answer is that to the rounds
+  past_empty : (st : Stage) (r : ℕ) → (st ≡ Empty → ⊥) → rounds_asked r ≡ rounds_answer st r
+  past_empty Empty r some = absurd (some refl)
+  past_empty Loaded r some = refl
+  past_empty Translated r some = refl
+
+  answered_so : (a : Result (Unit {0}) Refusal) (r : ℕ) → a ≡ rounds_asked r → (j.session.stage ≡ Empty → ⊥) → (m : Model) → Keeps k j m → a ≡ translate_answer m r
+  answered_so a r q some m h = q ∙ past_empty j.session.stage r some ∙ rounds_answered k j.session r m (session_keeps k j m h)
+
+  pub translate_refused : (t : Machine V G) (r : ℕ) (e : Refusal) → t ≡ j.session.machine → Err e ≡ rounds_asked r → (j.session.stage ≡ Empty → ⊥) → (m : Model) → Keeps k j m → (Err e ≡ translate_answer m r) × Keeps k (with_threads t) (translate_next m r)
+  translate_refused t r e et q some m h =
+      let answer = answered_so (Err e) r q some m h in
+      (answer, job_refused k j (with_machine k j.session t) e m r answer h (session_refused k j.session t r e et q m (session_keeps k j m h)))
+
+  -- the translation of the program that there is, over r rounds
+  made_of : (t : Machine V G) (r : ℕ) (x : Job V G) → t.table ≡ j.session.machine.table → t.rounds ≡ rounds_after r j.session.machine.rounds → few r ≡ true → (WellFormed k (program t) → 1 ≤ t.rounds → HasTranslation k x (program t) t.rounds 0 0)
+      → (p : Program) → program j.session.machine ≡ p → WellFormed k p → HasTranslation k x p r 0 0
+  made_of t r x et er good make p ep w =
+      let same : program t ≡ p = ap view et ∙ ep in
+      let rounds : t.rounds ≡ r = er ∙ ap (λ b. cond b r j.session.machine.rounds) good in
+      let some : 1 ≤ r = leb-true 1 r (and_parts (leb 1 r) (leb r 8) good).0 in
+      subst (λ q. HasTranslation k x q r 0 0) same (subst (λ n. HasTranslation k x (program t) n 0 0) rounds (make (subst (WellFormed k) (sym same) w) (omega arith)))
+
+  keeps_made : (t : Machine V G) (r : ℕ) (x : Job V G) → (t.table ≡ j.session.machine.table) × (t.rounds ≡ rounds_after r j.session.machine.rounds) → few r ≡ true → (j.session.stage ≡ Empty → ⊥)
+      → (WellFormed k (program t) → 1 ≤ t.rounds → HasTranslation k x (program t) t.rounds 0 0) → (m : Model) → Keeps k j m → Keeps k x (translate_next m r)
+  keeps_made t r x e good some make empty h = absurd (some h)
+  keeps_made t r x e good some make (loaded p) h = subst (λ b. Keeps k x (cond b (translated p r 0 0) (loaded p))) (sym good) (made_of t r x e.0 e.1 good make p h.program h.exists)
+  keeps_made t r x e good some make (translated p n v u) h = subst (λ b. Keeps k x (cond b (translated p r 0 0) (translated p n v u))) (sym good) (made_of t r x e.0 e.1 good make p h.session.program h.session.exists)
+
+  pub translate_made : (t : Machine V G) (r : ℕ) (x : Job V G) → (t.table ≡ j.session.machine.table) × (t.rounds ≡ rounds_after r j.session.machine.rounds) → Ok tt ≡ rounds_asked r → (j.session.stage ≡ Empty → ⊥)
+      → (WellFormed k (program t) → 1 ≤ t.rounds → HasTranslation k x (program t) t.rounds 0 0) → (m : Model) → Keeps k j m → (Ok tt ≡ translate_answer m r) × Keeps k x (translate_next m r)
+  translate_made t r x e q some make m h = (answered_so (Ok tt) r q some m h, keeps_made t r x e (few_true r q) some make m h)
